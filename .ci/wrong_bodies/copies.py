@@ -14,11 +14,14 @@ WAITS = re.compile(r"it calls `\S+`, which is not proved")
 
 
 def place_of(edit, texts):
-    """The function that the edit changes, if a copy can stand beside it: it is free, or a method of a type itself."""
+    """The function that the edit changes, if a copy can stand beside it: it is free, or a method of a type itself, and
+    C can't call it."""
     text = texts[edit.file]
     lines = {(edit.file, text.count("\n", 0, it.start()) + 1): it for it in BODY.finditer(text)}
     place = lines.get(next(iter(edit.bodies))) if len(edit.bodies) == 1 else None
     if not place or place["name"] != edit.function.rpartition("::")[2]:
+        return None
+    if 'extern "C"' in text[place.start() : place.start("name")]:
         return None
     around = [*BLOCK.finditer(text, 0, place.start())]
     is_method = around and around[-1]["word"] == "impl" and " for " not in " ".join(around[-1]["head"].split())

@@ -3,7 +3,7 @@
 use crate::answer::Answer;
 use domain_wire::CanonicalOrd;
 
-/// Puts the canonical order of two values, by each call that tells it.
+/// Puts the canonical order of two values, by each call that returns it.
 pub fn put_canonical_order<A: CanonicalOrd<B>, B>(out: &Answer, a: &A, b: &B) {
     let order = a.canonical_cmp(b);
     out.put_order(b"", order);

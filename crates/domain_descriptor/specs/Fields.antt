@@ -21,7 +21,7 @@ OctetsAt m p n e = (e ≡ p + n) × (e ≤ length m)
 abbrev pub NameAt : List ℕ → ℕ → ℕ → Type 0
 NameAt m p e = ((ls : List (List ℕ)) × Names 255 m p ls) × EncodingEnds m p e
 
--- An octet that tells how many follow, and these (RFC 1035, 3.3).
+-- An octet that says how many follow, and these (RFC 1035, 3.3).
 abbrev pub CountedAt : List ℕ → ℕ → ℕ → Type 0
 CountedAt m p e = (p < length m) × (e ≡ p + 1 + slice_index m p) × (e ≤ length m)
 
@@ -29,7 +29,7 @@ CountedAt m p e = (p < length m) × (e ≡ p + 1 + slice_index m p) × (e ≤ le
 abbrev pub CountedCut : List ℕ → ℕ → Type 0
 CountedCut m p = length m < p + 1 + slice_index m p
 
--- An octet that isn't zero and tells how many follow, and these (RFC 5155, 3.1.6).
+-- An octet that isn't zero and says how many follow, and these (RFC 5155, 3.1.6).
 abbrev pub SomeCountedAt : List ℕ → ℕ → ℕ → Type 0
 SomeCountedAt m p e = CountedAt m p e × (0 < slice_index m p)
 

@@ -11,11 +11,11 @@ pub enum FieldForm {
     Fixed(usize),
     /// A name.
     Name,
-    /// An octet that tells how many follow, and these.
+    /// An octet that says how many follow, and these.
     Counted,
     /// The same, or nothing where the data ends.
     OptionalCounted,
-    /// An octet that isn't zero and tells how many follow, and these.
+    /// An octet that isn't zero and says how many follow, and these.
     SomeCounted,
     /// Octets behind one that counts them, one after another to the end of the data, one or more.
     Strings,

@@ -37,9 +37,9 @@ pub enum FieldKind {
     Tag,
     /// The octets to the end of the data, shown between quotes (RFC 8659, 4.1.1; RFC 7553, 4.4).
     QuotedText,
-    /// Octets behind one that tells how many they are, shown in hexadecimal (RFC 5155, 3.1.5).
+    /// Octets behind one that says how many they are, shown in hexadecimal (RFC 5155, 3.1.5).
     CountedBase16,
-    /// Octets behind one that tells how many they are, one or more, shown in base32hex (RFC 5155, 3.1.6 and 3.1.7).
+    /// Octets behind one that says how many they are, one or more, shown in base32hex (RFC 5155, 3.1.6 and 3.1.7).
     CountedBase32,
     /// Octets behind two that tell how many they are, shown in base64 (RFC 8945, 4.2).
     CountedBase64,

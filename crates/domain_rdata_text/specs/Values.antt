@@ -110,7 +110,7 @@ number32_in (a ∷ b ∷ c ∷ d ∷ e ∷ os) = generic (a ∷ b ∷ c ∷ d �
 abbrev pub ipv4_in : List ℕ → Val
 ipv4_in os = if length os == 4 then ipv4 os else generic os
 
--- a character string, where the first octet tells how many follow
+-- a character string, where the first octet says how many follow
 abbrev pub string_in : List ℕ → Val
 string_in [] = generic []
 string_in (n ∷ s) = if length s == n then string s else generic (n ∷ s)

@@ -1,4 +1,4 @@
--- What is demanded of the RRsets of a zone that is kept, and which fault tells that it isn't met.
+-- What is demanded of the RRsets of a zone that is kept, and which fault says that it isn't met.
 use Rattle.std.specs.Prelude.{◌≡◌, ◌≢◌, ℕ, ◌<◌, ◌⊎◌, List, [], ◌∷◌, length, slice_index_or}
 use Rattle.std.specs.List.{All, Contains}
 use Rattle.std.specs.Cmp.Lexicographic.{slice_cmp}
@@ -32,7 +32,7 @@ IsWildcard n = StartsWith n ((42 ∷ []) ∷ [])
 abbrev pub IsLeaf : Zone → List (List ℕ) → Type 0
 IsLeaf z n = (r : RRset) → Contains z.rrsets r → EndsWith r.owner n → SameLabels r.owner n
 
--- What is demanded of the RRset s of the zone z, and the fault tells that it isn't met.
+-- What is demanded of the RRset s of the zone z, and the fault says that it isn't met.
 abbrev pub Demand : Zone → RRset → RrsetFault → Type 0
 Demand z s OutOfZone = EndsWith s.owner z.apex
 Demand z s NotDataType = IsDataType s.rtype × (s.rtype ≢ NSEC3)

@@ -9,11 +9,10 @@ ghost use Rattle.domain_zone_laws.specs.Zone.{HasType, IsCut, MayBeBesideCname};
 
 use crate::fault::RrsetFault;
 use crate::names::Owner;
-use crate::place::place_of;
 use domain_list::comparing::eq_names;
 use domain_list::ends::ends_with_labels;
 use domain_list::laws::order_laws;
-use domain_zone_laws::find::find_at;
+use domain_zone_laws::find::{find_at, place_of};
 use domain_zone_laws::zone::{Rrset, ZoneRecords};
 
 /// Whether records of a type may be beside a CNAME.

@@ -10,7 +10,6 @@ mod fault;
 mod kept;
 mod merging;
 mod names;
-pub mod place;
 
 pub use building::{BuildError, InsertError, ZoneBuilder};
 pub use checking::find_fault;

@@ -10,9 +10,9 @@ ghost use Rattle.domain_zone_laws.specs.Zone.{RRset};
 
 use crate::entry::Entry;
 use crate::names::Owner;
-use crate::place::place_of;
 use domain_list::comparing::{eq_names, order_names};
 use domain_list::laws::order_laws;
+use domain_zone_laws::find::place_of;
 use domain_zone_laws::zone::{Rrset, ZoneRecords};
 use std::alloc::{AllocError, Global};
 use std::cmp::Ordering;

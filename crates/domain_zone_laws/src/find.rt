@@ -29,8 +29,8 @@ pub(crate) fn comes_before<'a, N: ToLabelIter<'a>, M: ToLabelIter<'a>>(
     }
 }
 
-/// How many RRsets come before what a name has of a type.
-fn place<'a, N: ToLabelIter<'a>, M: ToLabelIter<'a>>(
+/// How many RRsets come before what a name has of a type. They are in canonical order, and are searched by halves.
+pub fn place_of<'a, N: ToLabelIter<'a>, M: ToLabelIter<'a>>(
     zone: &'a ZoneRecords<N>,
     name: &'a M,
     rtype: u16,
@@ -77,7 +77,7 @@ pub fn find_at<'z: 'a, 'a, N: ToLabelIter<'a>, M: ToLabelIter<'a>>(
         (λ s. IsAt (zone_of N.labels zone.now) (M.labels name.now) rtype (rrset N.labels s.now)) }
 {
     order_laws();
-    let at = place(zone, name, rtype);
+    let at = place_of(zone, name, rtype);
     let set = zone.sets.get(at)?;
     if !is_of(set, name, rtype) {
         return None;
@@ -96,7 +96,7 @@ pub fn is_above_records<'a, N: ToLabelIter<'a>, M: ToLabelIter<'a>>(
         × EndsWith s.owner (M.labels name.now)) }
 {
     order_laws();
-    let at = place(zone, name, 0);
+    let at = place_of(zone, name, 0);
     let Some(set) = zone.sets.get(at) else {
         return false;
     };
@@ -112,7 +112,7 @@ pub fn owns_records<'a, N: ToLabelIter<'a>, M: ToLabelIter<'a>>(
     ensures { IsTrue result ↔ OwnsRecords (zone_of N.labels zone.now) (M.labels name.now) }
 {
     order_laws();
-    let at = place(zone, name, 0);
+    let at = place_of(zone, name, 0);
     let Some(set) = zone.sets.get(at) else {
         return false;
     };

@@ -14,8 +14,8 @@ use crate::outcome::Answer;
 use crate::referral::referral;
 use domain_list::laws::order_laws;
 use domain_name::Name;
-use domain_zone::place::place_of;
 use domain_zone::{Owner, Zone};
+use domain_zone_laws::find::place_of;
 use domain_zone_laws::reply::reply_at;
 use domain_zone_laws::zone::ZoneRecords;
 

@@ -12,19 +12,19 @@ returns-then-not-is_of g c h =
     let xs = c.args.zone.now.sets.items in
     let labels = g.N.NameLabels.labels in
     let name = g.M.NameLabels.labels c.args.name.now in
-    let i = c.place-at.result in
+    let i = c.place_of-at.result in
     let s = c.in_ok-set.set.now in
     let same = c.deref.ensures.value in
     let within : i < length xs = subst (λ l. i < length l) same (ltb-true _ _ (sym c.in_ok-set.ensures.lookup.0)) in
     let is : s ≡ get_or xs i s = c.in_ok-set.ensures.lookup.1 ∙ ap (λ l. get_or l i s) same in
-    let r = reaches_at (zone_of labels c.args.zone.now) c.requires name c.order_laws.ensures.apart c.args.rtype i c.place-at.ensures.place h.0 h.1 in
+    let r = reaches_at (zone_of labels c.args.zone.now) c.requires name c.order_laws.ensures.apart c.args.rtype i c.place_of-at.ensures.place h.0 h.1 in
     let d = rrset labels s in
     true≢false (sym (c.is_of.ensures.1 (subst (λ (q : RRset). SameLabels q.owner name × (q.rtype ≡ c.args.rtype)) (view_at (rrset labels) xs i s within is d) (r.1 d))) ∙ c.if-not-is_of.true)
 
 pub returns : goal.returns
 returns g c =
     let xs = c.args.zone.now.sets.items in
-    let i = c.place-at.result in
+    let i = c.place_of-at.result in
     let s = c.in_ok-set.set.now in
     let same = c.deref.ensures.value in
     let within : i < length xs = subst (λ l. i < length l) same (ltb-true _ _ (sym c.in_ok-set.ensures.lookup.0)) in

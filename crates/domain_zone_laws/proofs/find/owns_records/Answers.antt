@@ -12,7 +12,7 @@ returns g c =
     let xs = c.args.zone.now.sets.items in
     let labels = g.N.NameLabels.labels in
     let name = g.M.NameLabels.labels c.args.name.now in
-    let i = c.place-at.result in
+    let i = c.place_of-at.result in
     let s = c.in-Some.set.now in
     let same = c.deref.ensures.value in
     let within : i < length xs = subst (λ l. i < length l) same (ltb-true _ _ (sym c.in-Some.ensures.lookup.0)) in
@@ -21,5 +21,5 @@ returns g c =
       λ e. (d, one_viewed (rrset labels) xs i s within is, c.eq_names.ensures.0 e),
       λ h. c.eq_names.ensures.1
           (subst (λ (q : RRset). SameLabels q.owner name) (view_at (rrset labels) xs i s within is d)
-          ((reaches_owner (zone_of labels c.args.zone.now) c.requires name c.order_laws.ensures.first c.order_laws.ensures.together c.order_laws.ensures.apart i c.place-at.ensures.place h.0 h.1 h.2).1 d)),
+          ((reaches_owner (zone_of labels c.args.zone.now) c.requires name c.order_laws.ensures.first c.order_laws.ensures.together c.order_laws.ensures.apart i c.place_of-at.ensures.place h.0 h.1 h.2).1 d)),
     )

@@ -2,7 +2,7 @@ use Rattle.std.proofs.Common.{◌-◌, ◌<◌, ◌≤◌, ℕ, length, slice_in
 use Rattle.domain_zone_laws.specs.Sorted.{ComesBefore}
 use Rattle.domain_zone_laws.specs.Views.{zone_of}
 use Rattle.domain_zone_laws.specs.Zone.{RRset}
-use Rattle.domain_zone_laws.proofs.find.place.Given as goal
+use Rattle.domain_zone_laws.proofs.find.place_of.Given as goal
 
 -- what is below low comes before, and what is at high and above it doesn't
 abbrev pub invariant-halves : goal.invariant-halves

@@ -3,7 +3,7 @@ use Rattle.std.proofs.lemmas.List.{length-map}
 use Rattle.domain_zone_laws.specs.Sorted.{ComesBefore}
 use Rattle.domain_zone_laws.specs.Views.{rrset, zone_of}
 use Rattle.domain_zone_laws.proofs.Places.{with_middle, from_middle, view_at}
-use Rattle.domain_zone_laws.proofs.find.place.Goals as goal
+use Rattle.domain_zone_laws.proofs.find.place_of.Goals as goal
 
 pub halves-preserved-then-comes_before : goal.halves-preserved-then-comes_before
 halves-preserved-then-comes_before g c =
