@@ -1,5 +1,5 @@
 //! Appending octets and words.
-ghost use Rattle.std.specs.Prelude.{◌≡◌, [], ◌∷◌, IfOk, OnOk, IfErr};
+ghost use Rattle.std.specs.Prelude.{◌≡◌, [], ◌∷◌, IfOk, OnOk, OnErr, IfErr};
 ghost use Rattle.domain_rdata_text.specs.Outcome.{AppendedTo};
 ghost use Rattle.domain_rdata_text.specs.Words.{lists, AppendedWords};
 
@@ -14,9 +14,10 @@ pub(crate) fn append(octet: u8, text: &mut Vec<u8>) -> Result<(), AllocError>
     Ok(())
 }
 
-/// Appends octets to a text.
+/// Appends octets to a text, or nothing.
 pub(crate) fn append_all(octets: &[u8], text: &mut Vec<u8>) -> Result<(), AllocError>
-    ensures { OnOk result (AppendedTo text.old.items octets.now text.new.items) }
+    ensures unchanged { OnErr result (text.new.items ≡ text.old.items) }
+    ensures ok { OnOk result (AppendedTo text.old.items octets.now text.new.items) }
 {
     text.extend_from_slice(octets)?;
     Ok(())

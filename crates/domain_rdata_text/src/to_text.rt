@@ -1,5 +1,5 @@
 //! Record data as text (RFC 1035, 5.1; RFC 3597, 5).
-ghost use Rattle.std.specs.Prelude.{◌≡◌, ◌++◌, List, IfOk, OnOk};
+ghost use Rattle.std.specs.Prelude.{◌≡◌, ◌++◌, List, IfOk, OnOk, OnErr};
 ghost use Rattle.std.specs.List.{flat_map};
 ghost use Rattle.domain_rdata_text.specs.Outcome.{AppendedTo};
 ghost use Rattle.domain_rdata_text.specs.Texts.{val_words, is_some_list, is_nil, has_text, takes_all, in_fields, data_words, data_text};
@@ -10,7 +10,7 @@ use crate::address::append_ipv4_word;
 use crate::hex::{append_hex_words, generic_words_of};
 use crate::name::append_name_word;
 use crate::number::append_number_word;
-use crate::push::append_copy;
+use crate::push::{append_all, append_copy};
 use crate::string::{append_string_word, append_string_words};
 use crate::value::{PlainData, Value, plain_data};
 use crate::words::append_joined;
@@ -158,12 +158,15 @@ fn words_of_data(alloc: Global, plain: &PlainData) -> Result<Vec<Vec<u8>>, Alloc
 ///
 /// # Errors
 ///
-/// Where there was no memory. Nothing is said of the text then.
+/// Where there was no memory. The text is then as before.
 pub fn show(alloc: Global, rdata: &Rdata<'_>, text: &mut Vec<u8>) -> Result<(), AllocError>
-    ensures { OnOk result ((vs : List Val) × HasValues rdata.now vs
+    ensures ok { OnOk result ((vs : List Val) × HasValues rdata.now vs
         × AppendedTo text.old.items (data_text vs) text.new.items) }
+    ensures unchanged { OnErr result (text.new.items ≡ text.old.items) }
 {
     let plain = plain_data(alloc, rdata)?;
     let words = words_of_data(alloc, &plain)?;
-    append_joined(words.as_slice(), text)
+    let mut shown = Vec::new(alloc);
+    append_joined(words.as_slice(), &mut shown)?;
+    append_all(shown.as_slice(), text)
 }

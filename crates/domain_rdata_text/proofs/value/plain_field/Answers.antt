@@ -11,4 +11,4 @@ pub returns-in_ok-append_all-in-None-clause-octets : goal.returns-in_ok-append_a
 returns-in_ok-append_all-in-None-clause-octets c =
     let os = c.octets-of_field.result.now in
     let held = (held_in c.text_form.result os c.keep_octets.ensures).octets in
-    c.in_ok-append_all-in-None.ensures ∙ ap (λ (x : List ℕ). c.args.octets.now.items ++ x) (sym (ap val_octets c.in_ok-value-in-None.ensures ∙ held))
+    c.in_ok-append_all-in-None.ensures.ok ∙ ap (λ (x : List ℕ). c.args.octets.now.items ++ x) (sym (ap val_octets c.in_ok-value-in-None.ensures ∙ held))
