@@ -4,3 +4,4 @@ pub mod Chains
 pub mod Good
 pub mod Had
 pub mod Leaves
+pub mod Owned

@@ -7,7 +7,10 @@ use crate::checking::find_fault;
 use crate::fault::ZoneFault;
 use crate::names::Owner;
 use domain_header::Class;
-use domain_zone_laws::zone::ZoneRecords;
+use domain_list::ToLabelIter;
+use domain_list::laws::order_laws;
+use domain_zone_laws::find::{find_at, place_of};
+use domain_zone_laws::zone::{Rrset, ZoneRecords};
 
 /// A zone: an apex and the RRsets at and below it, in canonical order (RFC 1034, 4.2.1; RFC 4034, 6.1).
 ///
@@ -21,9 +24,12 @@ pub struct Zone {
 }
 
 impl Zone {
-    ghost use Rattle.std.specs.Prelude.{◌≡◌, IsOk, IfOk, IfErr, ◌↔◌};
+    ghost use Rattle.std.specs.Prelude.{◌≡◌, IsOk, IfOk, IfErr, MatchOption, map, ◌↔◌};
+    ghost use Rattle.domain_name.specs.Names.{name_labels};
     ghost use Rattle.domain_zone.specs.Faults.{HasFault};
-    ghost use Rattle.domain_zone.specs.Kept.{zone_view, zone_class};
+    ghost use Rattle.domain_zone.specs.Kept.{zone_view, zone_class, OwnedBy};
+    ghost use Rattle.domain_zone.specs.Records.{set_view};
+    ghost use Rattle.domain_zone_laws.specs.Zone.{HasType, IsAt};
 
     /// The zone of these records, all of one class.
     ///
@@ -70,5 +76,45 @@ impl Zone {
         ensures { result ≡ zone_class self.now }
     {
         self.class
+    }
+
+    /// Returns the name of the apex.
+    pub fn apex(&self) -> &Owner
+        ensures { name_labels result.now ≡ (zone_view self.now).apex }
+    {
+        &self.records.apex
+    }
+
+    /// Returns the RRsets in canonical order. Those of one owner are in ascending order of their types.
+    pub fn rrsets(&self) -> &[Rrset<Owner>]
+        ensures { map set_view result.now ≡ (zone_view self.now).rrsets }
+    {
+        self.records.sets.as_slice()
+    }
+
+    /// Returns the RRset that the zone has at a name of a type, or `None` if it has none.
+    pub fn rrset<'z: 'a, 'a, M: ToLabelIter<'a>>(
+        &'z self,
+        name: &'a M,
+        rtype: u16,
+    ) -> Option<&'z Rrset<Owner>>
+        ensures { MatchOption result
+            (HasType (zone_view self.now) (M.labels name.now) rtype → ⊥)
+            (λ s. IsAt (zone_view self.now) (M.labels name.now) rtype (set_view s.now)) }
+    {
+        find_at(self.records(), name, rtype)
+    }
+
+    /// Returns the RRsets that a name owns, in ascending order of their types.
+    ///
+    /// The slice is empty if it owns no records.
+    pub fn rrsets_at<'z: 'a, 'a, M: ToLabelIter<'a>>(&'z self, name: &'a M) -> &'z [Rrset<Owner>]
+        ensures { OwnedBy (zone_view self.now) (M.labels name.now) (map set_view result.now) }
+    {
+        order_laws();
+        let records = self.records();
+        let start = place_of(records, name, 0);
+        let end = place_of(records, name, 65535);
+        &records.sets[start..end]
     }
 }

@@ -1,5 +1,10 @@
 //! The outcomes of a question to a zone.
+ghost use Rattle.std.specs.Prelude.{◌≡◌, IsTrue, ◌↔◌};
+ghost use Rattle.domain_header.specs.Values.{rcode_number};
+ghost use Rattle.domain_zone_lookup.specs.Headers.{HasAuthority, response_code};
+ghost use Rattle.domain_zone_lookup.specs.Outcomes.{outcome_of};
 
+use domain_header::Rcode;
 use domain_list::Chain;
 use domain_name::{Name, RelativeName};
 use domain_zone::Owner;
@@ -26,4 +31,31 @@ pub enum Answer<'a> {
     Synthesized(Reply<'a, Owner>),
     /// It doesn't exist, and no wildcard answers for it (NXDOMAIN).
     NameError,
+}
+
+impl<'a> Answer<'a> {
+    /// Returns whether a response with this answer sets the AA bit (RFC 1035, 4.1.1).
+    ///
+    /// A referral clears it, and so does a name out of the zone (RFC 1034, 4.3.2).
+    pub fn is_authoritative(&self) -> bool
+        ensures { IsTrue result ↔ HasAuthority (outcome_of self.now) }
+    {
+        !matches!(self, Answer::OutOfZone | Answer::Referral(_))
+    }
+
+    /// Returns the response code.
+    ///
+    /// It is NXDOMAIN for a name error (RFC 2308, 2.1) and YXDOMAIN for a name that a DNAME makes too long (RFC 6672,
+    /// 2.2). For a name out of the zone it is REFUSED (RFC 1035, 4.1.1): no RFC demands this code, and this library
+    /// chooses it. For all others it is NOERROR.
+    pub fn rcode(&self) -> Rcode
+        ensures { rcode_number result ≡ response_code (outcome_of self.now) }
+    {
+        match self {
+            Answer::OutOfZone => Rcode::masked_from_int(5),
+            Answer::NameError => Rcode::masked_from_int(3),
+            Answer::TooLong(_) => Rcode::masked_from_int(6),
+            _ => Rcode::masked_from_int(0),
+        }
+    }
 }

@@ -1,12 +1,8 @@
-//! Tests of zones that are made of records, and of what they answer, by the tables of the RFCs.
+//! Tests of zones that are made of records: why they are none, and how records are merged.
 #![tactic(auto)]
 
 #[cfg(test)]
-mod answers;
-#[cfg(test)]
 mod faults;
-#[cfg(test)]
-mod lookups;
 #[cfg(test)]
 mod merging;
 #[cfg(test)]

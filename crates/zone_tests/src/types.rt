@@ -1,4 +1,4 @@
-//! Types of records by their numbers (RFC 1035, 3.2.2 and 3.2.3; RFC 2782; RFC 4034; RFC 6672).
+//! Types of records by their numbers (RFC 1035, 3.2.2; RFC 4034; RFC 6672).
 
 pub const A: u16 = 1;
 
@@ -8,15 +8,9 @@ pub const CNAME: u16 = 5;
 
 pub const SOA: u16 = 6;
 
-pub const PTR: u16 = 12;
-
-pub const HINFO: u16 = 13;
-
 pub const MX: u16 = 15;
 
 pub const TXT: u16 = 16;
-
-pub const SRV: u16 = 33;
 
 pub const DNAME: u16 = 39;
 
@@ -25,5 +19,3 @@ pub const DS: u16 = 43;
 pub const RRSIG: u16 = 46;
 
 pub const NSEC: u16 = 47;
-
-pub const ANY: u16 = 255;

@@ -76,11 +76,3 @@ pub fn built(
     insert_all(rt, alloc, &mut builder, rows);
     builder.finish(alloc)
 }
-
-/// The same, where there is one.
-pub fn zone(rt: &impl Abort, alloc: Global, apex: &'static str, rows: &[Row]) -> Zone {
-    match built(rt, alloc, apex, rows) {
-        Ok(zone) => zone,
-        Err(why) => panic!(rt; "no zone: {why:?}"),
-    }
-}

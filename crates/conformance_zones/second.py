@@ -1,0 +1,196 @@
+"""A second reader of zones, written from RFC 1034 (4.2.1, 4.3.2), 2181 (5, 6, 10.1), 2308, 4034 (6.1), 4035 (2.4, 2.5,
+3.1.4.1), 4592, 5155 (7.2.8), 6672, 6895 and 8482. It keeps a zone as a tree of labels and goes down from the apex."""
+
+NS, CNAME, SOA, KEY, DNAME, OPT, DS, RRSIG, NSEC, NSEC3, ANY = 2, 5, 6, 25, 39, 41, 43, 46, 47, 50, 255
+MOST_OCTETS, MOST_LABEL = 255, 63
+
+
+def labels_of(text):
+    """The labels of a name in text without escapes, the top one last."""
+    return [] if text == "." else text.removesuffix(".").split(".")
+
+
+def text_of(labels):
+    return ".".join(labels) + "."
+
+
+def octets_of(labels):
+    """How many octets the name has (RFC 1035, 3.1)."""
+    return sum(len(it) + 1 for it in labels) + 1
+
+
+def name_in(data):
+    """The labels of a name that all of the data are, without a pointer, or None (RFC 1035, 3.1)."""
+    labels, at = [], 0
+    while at < len(data) and data[at]:
+        end = at + 1 + data[at]
+        if data[at] > MOST_LABEL or end > len(data):
+            return None
+        labels.append(data[at + 1 : end].decode("latin-1"))
+        at = end
+    return labels if at + 1 == len(data) <= MOST_OCTETS else None
+
+
+def is_data_type(rtype):
+    """RFC 6895, 3.1: 1 to 127 without OPT, and 256 to 65534. NSEC3 is kept beside a zone (RFC 5155, 7.2.8)."""
+    return (0 < rtype < 128 or 255 < rtype < 65535) and rtype not in (OPT, NSEC3)
+
+
+class Node:
+    """A name: its RRsets by type, and what is below it by labels in lower case."""
+
+    def __init__(self):
+        self.sets, self.below = {}, {}
+
+    def walk(self):
+        yield self
+        for it in self.below.values():
+            yield from it.walk()
+
+
+class RRset:
+    """The records of one owner and one type: spelling of the owner by data, the TTL, and the data."""
+
+    def __init__(self):
+        self.spellings, self.ttl = {}, None
+
+    def add(self, owner, ttl, data):
+        self.spellings.setdefault(data, owner)
+        self.ttl = ttl if self.ttl is None else min(self.ttl, ttl)
+
+    @property
+    def owner(self):
+        return self.spellings[min(self.spellings)]
+
+
+class Zone:
+    def __init__(self, apex):
+        self.apex, self.top = labels_of(apex), Node()
+
+    def inside(self, labels):
+        """The labels before those of the apex, in lower case and the top one first, or None."""
+        low, apex = [it.lower() for it in labels], [it.lower() for it in self.apex]
+        front = len(low) - len(apex)
+        return low[:front][::-1] if front >= 0 and low[front:] == apex else None
+
+    def insert(self, owner, rtype, ttl, data):
+        """Inserts a record, and returns the sign of what came of it."""
+        path = self.inside(labels_of(owner))
+        if path is None:
+            return "o"
+        if not is_data_type(rtype):
+            return "t"
+        node = self.top
+        for label in path:
+            node = node.below.setdefault(label, Node())
+        node.sets.setdefault(rtype, RRset()).add(owner, ttl, data)
+        return "."
+
+    def is_zone(self):
+        """Whether the records are a zone."""
+        soa = self.top.sets.get(SOA)
+        is_top = soa and len(soa.spellings) == 1 and NS in self.top.sets and DS not in self.top.sets
+        return bool(is_top) and all(self.fits(it) for it in self.top.walk())
+
+    def fits(self, node):
+        """Whether what a name owns can be in a zone beside the rest."""
+        sets, is_apex = node.sets, node is self.top
+        if not is_apex and SOA in sets:
+            return False
+        for rtype in (CNAME, DNAME):
+            data = [*sets[rtype].spellings] if rtype in sets else []
+            if rtype in sets and (len(data) != 1 or name_in(data[0]) is None):
+                return False
+        if CNAME in sets and not set(sets) <= {CNAME, KEY, RRSIG, NSEC}:
+            return False
+        if DNAME in sets and (node.below or NS in sets and not is_apex):
+            return False
+        return True
+
+    def wildcards_fit(self):
+        """RFC 4592, 4.2 and 4.4: here no wildcard below the apex owns name servers or a DNAME."""
+        stack = [self.top]
+        while stack:
+            node = stack.pop()
+            star = node.below.get("*")
+            if star and (NS in star.sets or DNAME in star.sets):
+                return False
+            stack += node.below.values()
+        return True
+
+    def rrsets(self):
+        """All RRsets in canonical order (RFC 4034, 6.1), those of a name by type."""
+        yield from self.sorted_below(self.top)
+
+    def sorted_below(self, node):
+        yield from ((rtype, node.sets[rtype]) for rtype in sorted(node.sets))
+        for label in sorted(node.below, key=lambda it: it.encode("latin-1")):
+            yield from self.sorted_below(node.below[label])
+
+    def owned(self, name):
+        """The RRsets of a name by type, at and below cuts, too."""
+        node, path = self.top, self.inside(labels_of(name))
+        for label in path or []:
+            node = node.below.get(label, Node())
+        return {} if path is None else node.sets
+
+    def answer(self, name, rtype):
+        """RFC 1034, 4.3.2, with RFC 4592 and 6672, for one step."""
+        labels = labels_of(name)
+        path = self.inside(labels)
+        if path is None:
+            return "out of zone"
+        node = self.top
+        for depth, label in enumerate(path):
+            if label not in node.below:
+                return self.below(node, labels[: len(path) - depth], rtype)
+            node = node.below[label]
+            is_asked = depth + 1 == len(path)
+            if NS in node.sets and not (is_asked and rtype == DS):
+                return f"referral {node.sets[NS].owner}"
+        return found(node, rtype)
+
+    def below(self, node, front, rtype):
+        """The answer for a name that doesn't exist: its closest encloser, and its labels before those of that name."""
+        if DNAME in node.sets:
+            dname = node.sets[DNAME]
+            made = front + name_in(min(dname.spellings))
+            if octets_of(made) > MOST_OCTETS:
+                return f"too long {dname.owner}"
+            return f"redirect {dname.owner} {text_of(made)}"
+        if "*" in node.below:
+            return f"synthesized {found(node.below['*'], rtype)}"
+        return "name error"
+
+
+def header_of(answer):
+    """The AA bit (RFC 1034, 4.3.2; RFC 1035, 4.1.1) and the response code (RFC 2308, 2.1; RFC 6672, 2.2) of an answer.
+    REFUSED out of the zone is the library's choice."""
+    codes = {"name error": 3, "too long": 6, "out of zone": 5}
+    rcode = next((code for it, code in codes.items() if answer.startswith(it)), 0)
+    return f"aa={int(not answer.startswith(('referral', 'out of zone')))} rcode={rcode}"
+
+
+def found(node, rtype):
+    """What is found at a name that exists."""
+    if rtype == ANY:
+        return "any types" if node.sets else "no data"
+    if rtype in node.sets:
+        return f"records {node.sets[rtype].owner} {rtype}"
+    if CNAME in node.sets:
+        return f"alias {node.sets[CNAME].owner}"
+    return "no data"
+
+
+def answers(apex, records, questions):
+    """The line of answers to a line of the table."""
+    zone = Zone(apex)
+    said = "".join(zone.insert(*it) for it in records)
+    if not (zone.is_zone() and zone.wildcards_fit()):
+        return f"{said} no zone"
+    for rtype, it in zone.rrsets():
+        said += f" {it.owner}/{rtype}/{it.ttl}/{len(it.spellings)}"
+    for name, rtype in questions:
+        owned, answer = zone.owned(name), zone.answer(name, rtype)
+        said += f"; sets={len(owned)} has={int(rtype in owned)} {header_of(answer)} {answer}"
+    return said

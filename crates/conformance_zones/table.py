@@ -1,0 +1,351 @@
+#!/usr/bin/env python3
+"""Writes stdin and stdout of the table of zones, always the same: rows with their answers beside them, from the RFCs,
+and zones that are drawn from a fixed seed. second.py answers all, and has to answer the first as they say here. The
+last line is how many rows and questions there are."""
+
+import pathlib
+import random
+import sys
+
+sys.dont_write_bytecode = True
+import second
+
+HERE = pathlib.Path(__file__).resolve().parent
+A, NS, CNAME, SOA, PTR, HINFO, MX, TXT, KEY = 1, 2, 5, 6, 12, 13, 15, 16, 25
+SRV, DNAME, OPT, DS, RRSIG, NSEC, NSEC3, ANY = 33, 39, 41, 43, 46, 47, 50, 255
+SOA_DATA = bytes(5) + b"\x01" + bytes(16)
+DIGITS = 6 * "123456789-"
+LONG = ".".join([letter * 63 for letter in "abc"]) + "."
+
+
+def name(text):
+    return b"".join(bytes([len(it)]) + it.encode() for it in second.labels_of(text)) + b"\0"
+
+
+def text(string):
+    return bytes([len(string)]) + string.encode()
+
+
+def address(digits):
+    return bytes(map(int, digits.split(".")))
+
+
+# The zone of RFC 4592, 2.2.1, but for its SOA and its first name server.
+WILDCARDS = [
+    ("example.", NS, name("ns.example.com.")),
+    ("*.example.", TXT, text("this is a wildcard")),
+    ("*.example.", MX, b"\0\x0a" + name("host1.example.")),
+    ("sub.*.example.", TXT, text("this is not a wildcard")),
+    ("host1.example.", A, address("192.0.2.1")),
+    ("_ssh._tcp.host1.example.", SRV, bytes.fromhex("00000000001600")),
+    ("_ssh._tcp.host2.example.", SRV, bytes.fromhex("00000000001600")),
+    ("subdel.example.", NS, name("ns.example.com.")),
+    ("subdel.example.", NS, name("ns.example.net.")),
+]
+
+# RFC 6672, 2.2: the owner and the target of a DNAME, a name that is asked for, and what it becomes.
+SUBSTITUTIONS = [
+    ("example.com.", "example.net.", "com.", "no data"),
+    ("example.com.", "example.net.", "example.com.", "no data"),
+    ("example.com.", "example.net.", "a.example.com.", "redirect example.com. a.example.net."),
+    ("example.com.", "example.net.", "a.b.example.com.", "redirect example.com. a.b.example.net."),
+    ("b.example.com.", "example.net.", "ab.example.com.", "name error"),
+    ("example.com.", "example.net.", "foo.example.com.", "redirect example.com. foo.example.net."),
+    ("x.example.com.", "example.net.", "a.x.example.com.", "redirect x.example.com. a.example.net."),
+    ("example.com.", "y.example.net.", "a.example.com.", "redirect example.com. a.y.example.net."),
+    ("example.com.", "example.com.", "cyc.example.com.", "redirect example.com. cyc.example.com."),
+    ("example.com.", "c.example.com.", "cyc.example.com.", "redirect example.com. cyc.c.example.com."),
+    ("x.", ".", "shortloop.x.x.", "redirect x. shortloop.x."),
+    ("x.", ".", "shortloop.x.", "redirect x. shortloop."),
+]
+
+# What is asked, by which RFC; the apex; records beside an SOA and a name server at it; questions with their answers.
+TOLD = [
+    (
+        "RFC 4592, 2.2.1: its zone and its eight questions",
+        "example.",
+        WILDCARDS,
+        [
+            ("host3.example.", MX, "synthesized records *.example. 15"),
+            ("host3.example.", A, "synthesized no data"),
+            ("foo.bar.example.", TXT, "synthesized records *.example. 16"),
+            ("host1.example.", MX, "no data"),
+            ("sub.*.example.", MX, "no data"),
+            ("_telnet._tcp.host1.example.", SRV, "name error"),
+            ("host.subdel.example.", A, "referral subdel.example."),
+            ("ghost.*.example.", MX, "name error"),
+        ],
+    ),
+    (
+        "RFC 4592, 2.2.2 and 2.3: names without records of their own exist, and an asterisk label is as any other",
+        "example.",
+        WILDCARDS,
+        [
+            ("_tcp.host1.example.", SRV, "no data"),
+            ("host2.example.", SRV, "no data"),
+            ("_tcp.host2.example.", ANY, "no data"),
+            ("*.example.", MX, "records *.example. 15"),
+            ("*.example.", ANY, "any types"),
+            ("other.host2.example.", MX, "name error"),
+            ("HOST1.Example.", A, "records host1.example. 1"),
+            ("host3.example.", ANY, "synthesized any types"),
+        ],
+    ),
+    (
+        "RFC 1034, 6.1 and 6.2.1 to 6.2.8: the root zone and its questions, up to the first CNAME",
+        ".",
+        [
+            (".", NS, name("A.ISI.EDU.")),
+            (".", NS, name("C.ISI.EDU.")),
+            (".", NS, name("SRI-NIC.ARPA.")),
+            ("MIL.", NS, name("SRI-NIC.ARPA.")),
+            ("MIL.", NS, name("A.ISI.EDU.")),
+            ("EDU.", NS, name("SRI-NIC.ARPA.")),
+            ("EDU.", NS, name("C.ISI.EDU.")),
+            ("SRI-NIC.ARPA.", A, address("26.0.0.73")),
+            ("SRI-NIC.ARPA.", A, address("10.0.0.51")),
+            ("SRI-NIC.ARPA.", MX, b"\0\x00" + name("SRI-NIC.ARPA.")),
+            ("SRI-NIC.ARPA.", HINFO, bytes.fromhex("084445432d3230363006544f50533230")),
+            ("ACC.ARPA.", A, address("26.6.0.65")),
+            ("ACC.ARPA.", HINFO, bytes.fromhex("095044502d31312f373004554e4958")),
+            ("ACC.ARPA.", MX, b"\0\x0a" + name("ACC.ARPA.")),
+            ("USC-ISIC.ARPA.", CNAME, name("C.ISI.EDU.")),
+            ("73.0.0.26.IN-ADDR.ARPA.", PTR, name("SRI-NIC.ARPA.")),
+            ("65.0.6.26.IN-ADDR.ARPA.", PTR, name("ACC.ARPA.")),
+            ("51.0.0.10.IN-ADDR.ARPA.", PTR, name("SRI-NIC.ARPA.")),
+            ("52.0.0.10.IN-ADDR.ARPA.", PTR, name("C.ISI.EDU.")),
+            ("103.0.3.26.IN-ADDR.ARPA.", PTR, name("A.ISI.EDU.")),
+            ("A.ISI.EDU.", A, address("26.3.0.103")),
+            ("C.ISI.EDU.", A, address("10.0.0.52")),
+        ],
+        [
+            ("SRI-NIC.ARPA.", A, "records SRI-NIC.ARPA. 1"),
+            ("SRI-NIC.ARPA.", ANY, "any types"),
+            ("SRI-NIC.ARPA.", MX, "records SRI-NIC.ARPA. 15"),
+            ("SRI-NIC.ARPA.", NS, "no data"),
+            ("SIR-NIC.ARPA.", A, "name error"),
+            ("BRL.MIL.", A, "referral MIL."),
+            ("USC-ISIC.ARPA.", A, "alias USC-ISIC.ARPA."),
+            ("USC-ISIC.ARPA.", CNAME, "records USC-ISIC.ARPA. 5"),
+            ("C.ISI.EDU.", A, "referral EDU."),
+            (".", NS, "records . 2"),
+        ],
+    ),
+    (
+        "RFC 6672, 2.2 and 2.3: the owner itself isn't substituted, and the DNAME is one of its records",
+        "example.",
+        [
+            ("d.example.", DNAME, name("example.net.")),
+            ("d.example.", TXT, text("d")),
+            ("*.example.", TXT, text("w")),
+            ("www.example.", CNAME, name("example.com.")),
+        ],
+        [
+            ("d.example.", DNAME, "records d.example. 39"),
+            ("d.example.", TXT, "records d.example. 16"),
+            ("d.example.", A, "no data"),
+            ("A.D.example.", DNAME, "redirect d.example. A.example.net."),
+            ("a.d.example.", TXT, "redirect d.example. a.example.net."),
+            ("a.www.example.", TXT, "name error"),
+        ],
+    ),
+    (
+        "RFC 6672, 2.2: a name of more than 255 octets isn't substituted (YXDOMAIN)",
+        ".",
+        [("x.", DNAME, name(LONG))],
+        [
+            (DIGITS + "1.x.", A, "redirect x. " + DIGITS + "1." + LONG),
+            (DIGITS + "12.x.", A, "too long x."),
+        ],
+    ),
+    (
+        "RFC 1034, 4.3.2; RFC 2181, 6; RFC 4035, 2.4 and 3.1.4.1: at and below cuts",
+        "example.",
+        [
+            ("sub.example.", NS, name("ns.sub.example.")),
+            ("sub.example.", DS, bytes.fromhex("00010802")),
+            ("ns.sub.example.", A, address("192.0.2.1")),
+            ("low.sub.example.", NS, name("ns.example.com.")),
+            ("bare.example.", NS, name("ns.example.com.")),
+            ("*.example.", TXT, text("w")),
+            ("www.example.", A, address("192.0.2.2")),
+        ],
+        [
+            ("sub.example.", DS, "records sub.example. 43"),
+            ("SUB.example.", DS, "records sub.example. 43"),
+            ("bare.example.", DS, "no data"),
+            ("sub.example.", NS, "referral sub.example."),
+            ("sub.example.", NSEC, "referral sub.example."),
+            ("sub.example.", ANY, "referral sub.example."),
+            ("ns.sub.example.", A, "referral sub.example."),
+            ("a.low.sub.example.", A, "referral sub.example."),
+            ("low.sub.example.", DS, "referral sub.example."),
+            ("nobody.bare.example.", TXT, "referral bare.example."),
+            ("a.bare.example.", DS, "referral bare.example."),
+            ("example.", DS, "no data"),
+            ("example.", NS, "records example. 2"),
+            ("a.www.example.", TXT, "name error"),
+            ("other.example.", DS, "synthesized no data"),
+        ],
+    ),
+    (
+        "RFC 1034, 3.6.2 and 4.3.2, step 3a; RFC 4035, 2.5: a CNAME is in place of other types",
+        "example.",
+        [
+            ("a.example.", CNAME, name("b.example.")),
+            ("b.example.", CNAME, name("a.example.")),
+            ("self.example.", CNAME, name("self.example.")),
+            ("signed.example.", CNAME, name("a.example.")),
+            ("signed.example.", NSEC, bytes.fromhex("076578616d706c6500000140")),
+            ("*.w.example.", CNAME, name("a.example.")),
+        ],
+        [
+            ("a.example.", A, "alias a.example."),
+            ("b.example.", A, "alias b.example."),
+            ("self.example.", MX, "alias self.example."),
+            ("a.example.", CNAME, "records a.example. 5"),
+            ("a.example.", ANY, "any types"),
+            ("signed.example.", NSEC, "records signed.example. 47"),
+            ("signed.example.", A, "alias signed.example."),
+            ("x.y.w.example.", A, "synthesized alias *.w.example."),
+            ("x.w.example.", CNAME, "synthesized records *.w.example. 5"),
+            ("w.example.", A, "no data"),
+        ],
+    ),
+    (
+        "RFC 4592, 3.3.1 and 4.2: the source of synthesis is right below the closest encloser; no higher one counts",
+        "example.",
+        [
+            ("*.example.", A, address("192.0.2.1")),
+            ("a.b.c.example.", TXT, text("a")),
+            ("*.b.c.example.", MX, b"\0\x0a" + name(".")),
+            ("deep.*.d.example.", TXT, text("d")),
+        ],
+        [
+            ("x.y.example.", A, "synthesized records *.example. 1"),
+            ("x.c.example.", A, "name error"),
+            ("x.b.c.example.", A, "synthesized no data"),
+            ("x.b.c.example.", MX, "synthesized records *.b.c.example. 15"),
+            ("x.a.b.c.example.", A, "name error"),
+            ("x.d.example.", A, "synthesized no data"),
+            ("x.d.example.", ANY, "synthesized no data"),
+        ],
+    ),
+    (
+        "RFC 1034, 4.3.2, step 2: names outside of the zone",
+        "example.com.",
+        [("*.example.com.", A, address("192.0.2.1"))],
+        [
+            (".", NS, "out of zone"),
+            ("com.", A, "out of zone"),
+            ("example.net.", A, "out of zone"),
+            ("myexample.com.", A, "out of zone"),
+            ("example.com.net.", A, "out of zone"),
+            ("Example.COM.", SOA, "records example.com. 6"),
+            ("A.Example.COM.", A, "synthesized records *.example.com. 1"),
+            ("a.*.example.com.", A, "name error"),
+        ],
+    ),
+]
+
+# What the drawn zones are made of.
+LABELS = ["a", "b", "c", "*", "A"]
+APEXES = [".", "z.", "Z.y."]
+TYPES = [A] * 6 + [TXT] * 4 + [NS] * 2 + [CNAME, DNAME, DNAME, DS, NSEC, RRSIG, KEY, 65534]
+FOREIGN = [0, OPT, NSEC3, 128, ANY, 65535]
+ASKED = [A, A, A, TXT, TXT, NS, CNAME, DNAME, DS, SOA, NSEC, ANY, 65535]
+ZONES, RECORDS, QUESTIONS, SEED = 2000, 7, 6, 4592
+
+
+def drawn_name(draw, apex, known):
+    """A name: one that is known, what is above, below or beside it, or one out of the zone."""
+    top = second.labels_of(apex)
+    labels = second.labels_of(draw.choice(known))
+    front = labels[: len(labels) - len(top)]
+    for _ in range(draw.choice([0, 0, 1, 1, 2])):
+        front = draw.choice([front[1:], [draw.choice(LABELS), *front], [draw.choice(LABELS), *front[1:]]])
+    if draw.random() < 0.05:
+        return draw.choice(["y.", "a.", "az.", second.text_of([*top[:1], "a"]), second.text_of([*top[1:], "w"])])
+    return second.text_of(front[-4:] + top) if front or top else "."
+
+
+def drawn_data(draw, rtype):
+    if rtype in (NS, CNAME, DNAME):
+        front = draw.choice(["", "", 50 * "t" + ".", 55 * "t" + "."]) + draw.choice(["", LONG])
+        data = name(front + draw.choice(["a.z.", "b.", ""]) or ".")
+        return data if draw.random() < 0.98 else data[:-1]
+    if rtype == A:
+        return bytes([192, 0, 2, draw.randrange(3)])
+    return text(draw.choice(["", "x", "y"]))
+
+
+def drawn_zone(draw):
+    """The apex, records and questions of a zone that is drawn."""
+    apex = draw.choice(APEXES)
+    known = [apex]
+    records = [(apex, SOA, 3600, SOA_DATA), (apex, NS, 7200, name("ns."))]
+    records = records if draw.random() < 0.97 else records[draw.randrange(2) :][:1]
+    for _ in range(draw.randrange(RECORDS + 1)):
+        owner = drawn_name(draw, apex, known)
+        owner = owner if draw.random() < 0.8 else f"*.{owner}".replace("..", ".")
+        rtype = draw.choice(TYPES) if draw.random() < 0.97 else draw.choice(FOREIGN + [SOA])
+        known.append(owner)
+        records.append((owner, rtype, draw.choice([60, 3600, 2**32 - 1]), drawn_data(draw, rtype)))
+    draw.shuffle(records)
+    return apex, records, [(drawn_name(draw, apex, known), draw.choice(ASKED)) for _ in range(QUESTIONS)]
+
+
+def spelled_alike(records):
+    """The records, those with the same data spelling their owner as the first of them: it isn't told which is kept."""
+    first = {}
+    for owner, rtype, ttl, data in records:
+        yield first.setdefault((owner.lower(), rtype, data), owner), rtype, ttl, data
+
+
+def line_of(apex, records, questions):
+    shown = ";".join(f"{owner}/{rtype}/{ttl}/{data.hex() or '-'}" for owner, rtype, ttl, data in records)
+    asked = ";".join(f"{it}/{rtype}" for it, rtype in questions)
+    return f"zone {apex} {shown or '-'} {asked or '-'}"
+
+
+def told_rows():
+    """The rows with answers beside them: the heading, the zone's records, and the questions with their answers."""
+    for heading, apex, rows, questions in TOLD:
+        yield heading, apex, rows, questions
+    for owner, target, asked, answer in SUBSTITUTIONS:
+        yield "RFC 6672, 2.2: the table of substitutions", ".", [(owner, DNAME, name(target))], [(asked, A, answer)]
+
+
+def main():
+    lines, answers, heading = [], [], ""
+    for topic, apex, rows, questions in told_rows():
+        if topic != heading:
+            heading = topic
+            lines.append(f"# {topic}")
+            answers.append(f"# {topic}")
+        rows = [(apex, SOA, SOA_DATA), (apex, NS, name("ns.example.net.")), *rows]
+        records = [(owner, rtype, 3600, data) for owner, rtype, data in rows]
+        said = second.answers(apex, records, [it[:2] for it in questions])
+        if [it.split(" ", 4)[4] for it in said.split("; ")[1:]] != [it[2] for it in questions]:
+            sys.exit(f"{topic}: {said}, not {[it[2] for it in questions]}")
+        lines.append(line_of(apex, records, [it[:2] for it in questions]))
+        answers.append(said)
+    told = len(lines)
+    draw = random.Random(SEED)
+    lines.append("# zones that are drawn")
+    answers.append("# zones that are drawn")
+    asked = zones = 0
+    for _ in range(ZONES):
+        apex, records, questions = drawn_zone(draw)
+        records = list(spelled_alike(records))
+        lines.append(line_of(apex, records, questions))
+        answers.append(second.answers(apex, records, questions))
+        is_zone = not answers[-1].endswith(" no zone")
+        zones, asked = zones + is_zone, asked + is_zone * len(questions)
+    (HERE / "stdin").write_text("\n".join(lines) + "\n")
+    (HERE / "stdout").write_text("\n".join(answers) + "\n")
+    print(f"{told} lines of the RFCs; {ZONES} sets of records, of which {zones} are zones; {asked} questions to these")
+
+
+if __name__ == "__main__":
+    main()
