@@ -30,7 +30,7 @@ def address(digits):
     return bytes(map(int, digits.split(".")))
 
 
-# The zone of RFC 4592, 2.2.1, but for its SOA and its first name server.
+# The zone of RFC 4592, 2.2.1, without its SOA and its first name server.
 WILDCARDS = [
     ("example.", NS, name("ns.example.com.")),
     ("*.example.", TXT, text("this is a wildcard")),
@@ -334,8 +334,9 @@ def main():
     draw = random.Random(SEED)
     lines.append("# zones that are drawn")
     answers.append("# zones that are drawn")
-    asked = zones = 0
-    for _ in range(ZONES):
+    drawn = asked = zones = 0
+    while zones < ZONES:
+        drawn += 1
         apex, records, questions = drawn_zone(draw)
         records = list(spelled_alike(records))
         lines.append(line_of(apex, records, questions))
@@ -344,7 +345,7 @@ def main():
         zones, asked = zones + is_zone, asked + is_zone * len(questions)
     (HERE / "stdin").write_text("\n".join(lines) + "\n")
     (HERE / "stdout").write_text("\n".join(answers) + "\n")
-    print(f"{told} lines of the RFCs; {ZONES} sets of records, of which {zones} are zones; {asked} questions to these")
+    print(f"{told} lines of the RFCs; {drawn} sets of records, of which {zones} are zones; {asked} questions to these")
 
 
 if __name__ == "__main__":

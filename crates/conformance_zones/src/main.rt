@@ -1,7 +1,7 @@
 //! The conformance table of zones: reads zones and questions to them from standard input, a zone a line, and prints
 //! one line of answers for each.
 //!
-//! README.md tells the lines and the answers.
+//! README.md lists the lines and the answers.
 #![tactic(auto)]
 
 mod answers;

@@ -102,7 +102,7 @@ module _ (z : Zone) (decides : OrderDecidesEquality) (o : IsSorted z) (names : A
   }
 
 -- a type of data is below the highest
-small_type : (t : ℕ) → IsDataType t → t < 65535
+pub small_type : (t : ℕ) → IsDataType t → t < 65535
 small_type t (inl h) = omega (arith, h.1)
 small_type t (inr h) = h.1
 

@@ -50,7 +50,7 @@ equal_less e = cc
 greater_less : Greater ≡ Less → ⊥
 greater_less e = cc
 
-less_equal : Less ≡ Equal → ⊥
+pub less_equal : Less ≡ Equal → ⊥
 less_equal e = cc
 
 greater_equal : Greater ≡ Equal → ⊥

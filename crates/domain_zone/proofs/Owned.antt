@@ -8,19 +8,14 @@ use Rattle.std.proofs.lemmas.Bool.Decides.{leb_tells}
 use Rattle.domain_list.specs.Ancestors.{OrderDecidesEquality}
 use Rattle.domain_list.specs.Order.{canonical_order, SameLabels}
 use Rattle.domain_zone.specs.Kept.{OwnedBy}
+use Rattle.domain_zone.proofs.Good.{small_type}
+use Rattle.domain_zone.proofs.Had.{less_equal}
 use Rattle.domain_zone_laws.specs.Sorted.{ComesBefore, IsPlace}
-use Rattle.domain_zone_laws.specs.Zone.{Zone, RRset, IsZone, IsDataType}
-
-small_type : (t : ℕ) → IsDataType t → t < 65535
-small_type t (inl a) = omega (arith, a.1)
-small_type t (inr b) = b.1
+use Rattle.domain_zone_laws.specs.Zone.{Zone, RRset, IsZone}
 
 -- no type of a zone is 65,535
 pub small_types : (z : Zone) → IsZone z → All (λ s. s.rtype < 65535) z.rrsets
 small_types z w k d h = small_type (slice_index_or z.rrsets k d).rtype (w.types k d h).0
-
-less_equal : Less ≡ Equal → ⊥
-less_equal e = cc
 
 -- what comes before the name itself comes before each of its types
 more_types : (s : RRset) (n : List (List ℕ)) (t : ℕ) → ComesBefore s n 0 → ComesBefore s n t
