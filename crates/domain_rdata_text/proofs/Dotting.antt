@@ -12,26 +12,29 @@ use Rattle.domain_rdata_text.proofs.Reading.{number_back}
 digit_no_dot : (d : ℕ) → d < 10 → (48 + d == 46) ≡ false
 digit_no_dot d h = agree_below_at (λ n. 48 + n == 46) (λ n. false) 10 d refl h
 
--- all of u is of the open piece
-abbrev InPiece : List ℕ → Type 0
-InPiece u = (ps : List (List ℕ)) (p rest : List ℕ) → pieces_from ps p (u ++ rest) ≡ pieces_from ps (p ++ u) rest
+-- all of u is of the open piece, between separators
+abbrev pub InPiece : ℕ → List ℕ → Type 0
+InPiece sep u = (ps : List (List ℕ)) (p rest : List ℕ) → pieces_from sep ps p (u ++ rest) ≡ pieces_from sep ps (p ++ u) rest
 
-piece_one : (d : ℕ) → d < 10 → InPiece ((48 + d) ∷ [])
-piece_one d h ps p rest = cond-false (48 + d == 46) (pieces_from (ps ++ p ∷ []) [] rest) (pieces_from ps (p ++ (48 + d) ∷ []) rest) (digit_no_dot d h)
+pub piece_one : (sep c : ℕ) → (c == sep) ≡ false → InPiece sep (c ∷ [])
+piece_one sep c h ps p rest = cond-false (c == sep) (pieces_from sep (ps ++ p ∷ []) [] rest) (pieces_from sep ps (p ++ c ∷ []) rest) h
 
-piece_append : (u v : List ℕ) → InPiece u → InPiece v → InPiece (u ++ v)
-piece_append u v hu hv ps p rest =
-    ap (λ (x : List ℕ). pieces_from ps p x) (append_assoc u v rest)
-    ∙ (hu ps p (v ++ rest) ∙ (hv ps (p ++ u) rest ∙ ap (λ (x : List ℕ). pieces_from ps x rest) (append_assoc p u v)))
+pub piece_append : (sep : ℕ) (u v : List ℕ) → InPiece sep u → InPiece sep v → InPiece sep (u ++ v)
+piece_append sep u v hu hv ps p rest =
+    ap (λ (x : List ℕ). pieces_from sep ps p x) (append_assoc u v rest)
+    ∙ (hu ps p (v ++ rest) ∙ (hv ps (p ++ u) rest ∙ ap (λ (x : List ℕ). pieces_from sep ps x rest) (append_assoc p u v)))
 
-piece_number : (n : ℕ) → n < 2 ^ 64 → InPiece (decimal n)
-piece_number n h = decimal_by_steps (λ m ds. InPiece ds) (λ m low. piece_one m low)
-    (λ m ds high before. piece_append ds ((48 + m % 10) ∷ []) before (piece_one (m % 10) (omega arith))) n h
+piece_digit : (d : ℕ) → d < 10 → InPiece 46 ((48 + d) ∷ [])
+piece_digit d h = piece_one 46 (48 + d) (digit_no_dot d h)
+
+piece_number : (n : ℕ) → n < 2 ^ 64 → InPiece 46 (decimal n)
+piece_number n h = decimal_by_steps (λ m ds. InPiece 46 ds) (λ m low. piece_digit m low)
+    (λ m ds high before. piece_append 46 ds ((48 + m % 10) ∷ []) before (piece_digit (m % 10) (omega arith))) n h
 
 small : (n : ℕ) → n < 256 → n < 2 ^ 64
 small n h = omega (arith, h)
 
-pieces_after : (ns : List ℕ) → AreOctets ns → (ps : List (List ℕ)) (p : List ℕ) → pieces_from ps p (dotted ns) ≡ (ps ++ p ∷ []) ++ map decimal ns
+pieces_after : (ns : List ℕ) → AreOctets ns → (ps : List (List ℕ)) (p : List ℕ) → pieces_from 46 ps p (dotted ns) ≡ (ps ++ p ∷ []) ++ map decimal ns
 pieces_after [] b ps p = sym (append-nil (ps ++ p ∷ []))
 pieces_after (n ∷ ns) b ps p =
     piece_number n (small n b.0) (ps ++ p ∷ []) [] (dotted ns)
@@ -43,7 +46,7 @@ octets_back (n ∷ ns) b ks =
     ap (λ (x : Option ℕ). octets_from (with_number ks x) (map decimal ns)) (number_back 256 n b.0 (small n b.0))
     ∙ (octets_back ns b.1 (ks ++ n ∷ []) ∙ ap Some (append_assoc ks (n ∷ []) ns))
 
-pieces_back : (n : ℕ) (ns : List ℕ) → AreOctets (n ∷ ns) → pieces_from [] [] (ipv4_text (n ∷ ns)) ≡ map decimal (n ∷ ns)
+pieces_back : (n : ℕ) (ns : List ℕ) → AreOctets (n ∷ ns) → pieces_from 46 [] [] (ipv4_text (n ∷ ns)) ≡ map decimal (n ∷ ns)
 pieces_back n ns b = piece_number n (small n b.0) [] [] (dotted ns) ∙ pieces_after ns b.1 [] (decimal n)
 
 pub ipv4_back : (os : List ℕ) → length os ≡ 4 → AreOctets os → read_ipv4 (ipv4_text os) ≡ Some os

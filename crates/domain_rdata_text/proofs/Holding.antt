@@ -14,23 +14,29 @@ use Rattle.domain_rdata_text.specs.Forms.{text_form}
 use Rattle.domain_rdata_text.specs.Laws.{AreOctets}
 use Rattle.domain_rdata_text.specs.Names.{is_name, are_labels_in}
 use Rattle.domain_rdata_text.specs.Texts.{has_text}
-use Rattle.domain_rdata_text.specs.Values.{Val, form_of_val, counted, val_octets, vals_octets, val_in, number8_in, number16_in, number32_in, ipv4_in, string_in, strings_in, strings_or, is_tag, tag_in, ValueAt, ValuesAt}
-use Rattle.domain_rdata_text.specs.Values.Val.{number8, number16, number32, ipv4, name, string, strings, tag, quoted, base16, generic}
+use Rattle.domain_rdata_text.specs.Values.{Val, form_of_val, counted, val_octets, vals_octets, val_in, number8_in, number16_in, rtype_in, number32_in, time_in, ipv4_in, ipv6_in, string_in, counted16_in, strings_in, strings_or, is_tag, tag_in, ValueAt, ValuesAt}
+use Rattle.domain_rdata_text.specs.Values.Val.{number8, number16, number32, time, rtype, ipv4, ipv6, name, string, strings, tag, quoted, base16, base64, counted16, generic}
 use Rattle.domain_rdata_text.proofs.Octets.{octets_append, octets_range, same_pair}
 use Rattle.domain_rdata_text.proofs.Strung.{IsString, octets_of, all_short}
 
--- A field can hold this: a number of so many bits, four octets, a name of at most 255 octets, strings of at most 255.
+-- A field can hold this: a number of so many bits, four octets or sixteen, a name of at most 255 octets, strings of at
+-- most 255.
 abbrev pub IsVal : Val → Type 0
 IsVal (number8 n) = n < 256
 IsVal (number16 n) = n < 65536
 IsVal (number32 n) = n < 4294967296
+IsVal (time n) = n < 4294967296
+IsVal (rtype n) = n < 65536
 IsVal (ipv4 os) = (length os ≡ 4) × AreOctets os
+IsVal (ipv6 os) = (length os ≡ 16) × AreOctets os
 IsVal (name ls) = (is_name ls ≡ true) × AllByRecursion AreOctets ls
 IsVal (string s) = (length s ≤ 255) × AreOctets s
 IsVal (strings ss) = AllByRecursion IsString ss
 IsVal (tag s) = (length s ≤ 255) × AreOctets s × (is_tag s ≡ true)
 IsVal (quoted s) = AreOctets s
 IsVal (base16 os) = AreOctets os
+IsVal (base64 os) = AreOctets os
+IsVal (counted16 s) = (length s ≤ 255) × AreOctets s
 IsVal (generic os) = AreOctets os
 
 -- what is written so, where it has a text
@@ -87,6 +93,12 @@ held16 (a ∷ []) h = held_generic forms.Number16 (a ∷ []) h
 held16 (a ∷ b ∷ []) h = record { octets = octets16 a b h.0 h.1.0; val = omega (arith, h.0, h.1.0); written = λ _. refl }
 held16 (a ∷ b ∷ c ∷ os) h = held_generic forms.Number16 (a ∷ b ∷ c ∷ os) h
 
+held_rtype : (os : List ℕ) → AreOctets os → Held forms.Rtype os (rtype_in os)
+held_rtype [] h = held_generic forms.Rtype [] h
+held_rtype (a ∷ []) h = held_generic forms.Rtype (a ∷ []) h
+held_rtype (a ∷ b ∷ []) h = record { octets = octets16 a b h.0 h.1.0; val = omega (arith, h.0, h.1.0); written = λ _. refl }
+held_rtype (a ∷ b ∷ c ∷ os) h = held_generic forms.Rtype (a ∷ b ∷ c ∷ os) h
+
 held32 : (os : List ℕ) → AreOctets os → Held forms.Number32 os (number32_in os)
 held32 [] h = held_generic forms.Number32 [] h
 held32 (a ∷ []) h = held_generic forms.Number32 (a ∷ []) h
@@ -96,11 +108,25 @@ held32 (a ∷ b ∷ c ∷ d ∷ []) h =
     record { octets = octets32 a b c d h.1.0 h.1.1.0 h.1.1.1.0; val = low32 a b c d h.0 h.1.0 h.1.1.0 h.1.1.1.0; written = λ _. refl }
 held32 (a ∷ b ∷ c ∷ d ∷ e ∷ os) h = held_generic forms.Number32 (a ∷ b ∷ c ∷ d ∷ e ∷ os) h
 
+held_time : (os : List ℕ) → AreOctets os → Held forms.Time os (time_in os)
+held_time [] h = held_generic forms.Time [] h
+held_time (a ∷ []) h = held_generic forms.Time (a ∷ []) h
+held_time (a ∷ b ∷ []) h = held_generic forms.Time (a ∷ b ∷ []) h
+held_time (a ∷ b ∷ c ∷ []) h = held_generic forms.Time (a ∷ b ∷ c ∷ []) h
+held_time (a ∷ b ∷ c ∷ d ∷ []) h =
+    record { octets = octets32 a b c d h.1.0 h.1.1.0 h.1.1.1.0; val = low32 a b c d h.0 h.1.0 h.1.1.0 h.1.1.1.0; written = λ _. refl }
+held_time (a ∷ b ∷ c ∷ d ∷ e ∷ os) h = held_generic forms.Time (a ∷ b ∷ c ∷ d ∷ e ∷ os) h
+
 -- ---- octets and strings
 held_ipv4 : (os : List ℕ) → AreOctets os → Held forms.Ipv4 os (ipv4_in os)
 held_ipv4 os h = cond_both (length os == 4) (ipv4 os) (generic os) (λ v. Held forms.Ipv4 os v)
     (λ e. record { octets = refl; val = (eqb-true (length os) 4 e, h); written = λ _. refl })
     (λ e. held_generic forms.Ipv4 os h)
+
+held_ipv6 : (os : List ℕ) → AreOctets os → Held forms.Ipv6 os (ipv6_in os)
+held_ipv6 os h = cond_both (length os == 16) (ipv6 os) (generic os) (λ v. Held forms.Ipv6 os v)
+    (λ e. record { octets = refl; val = (eqb-true (length os) 16 e, h); written = λ _. refl })
+    (λ e. held_generic forms.Ipv6 os h)
 
 counted_is : (n : ℕ) (s : List ℕ) → (length s == n) ≡ true → counted s ≡ n ∷ s
 counted_is n s e = ap (λ (x : ℕ). x ∷ s) (eqb-true (length s) n e)
@@ -113,6 +139,12 @@ held_string [] h = held_generic forms.CharString [] h
 held_string (n ∷ s) h = cond_both (length s == n) (string s) (generic (n ∷ s)) (λ v. Held forms.CharString (n ∷ s) v)
     (λ e. record { octets = counted_is n s e; val = (counted_short n s h.0 e, h.1); written = λ _. refl })
     (λ e. held_generic forms.CharString (n ∷ s) h)
+
+held_counted16 : (os : List ℕ) → AreOctets os → Held forms.CountedBase16 os (counted16_in os)
+held_counted16 [] h = held_generic forms.CountedBase16 [] h
+held_counted16 (n ∷ s) h = cond_both (length s == n) (counted16 s) (generic (n ∷ s)) (λ v. Held forms.CountedBase16 (n ∷ s) v)
+    (λ e. record { octets = counted_is n s e; val = (counted_short n s h.0 e, h.1); written = λ _. refl })
+    (λ e. held_generic forms.CountedBase16 (n ∷ s) h)
 
 held_tag : (os : List ℕ) → AreOctets os → Held forms.Tag os (tag_in os)
 held_tag [] h = held_generic forms.Tag [] h
@@ -134,13 +166,18 @@ pub held_in : (form : TextForm) (os : List ℕ) → AreOctets os → Held form o
 held_in forms.Number8 os h = held8 os h
 held_in forms.Number16 os h = held16 os h
 held_in forms.Number32 os h = held32 os h
+held_in forms.Time os h = held_time os h
+held_in forms.Rtype os h = held_rtype os h
 held_in forms.Ipv4 os h = held_ipv4 os h
+held_in forms.Ipv6 os h = held_ipv6 os h
 held_in forms.Name os h = held_generic forms.Name os h
 held_in forms.CharString os h = held_string os h
 held_in forms.CharStrings os h = held_or os (strings_in [] [] Between os) h refl
 held_in forms.Tag os h = held_tag os h
 held_in forms.QuotedText os h = record { octets = refl; val = h; written = λ _. refl }
 held_in forms.Base16 os h = record { octets = refl; val = h; written = λ _. refl }
+held_in forms.Base64 os h = record { octets = refl; val = h; written = λ _. refl }
+held_in forms.CountedBase16 os h = held_counted16 os h
 held_in forms.Generic os h = held_generic forms.Generic os h
 
 -- ---- names
@@ -232,13 +269,18 @@ val_low : (v : Val) → IsVal v → AreOctets (val_octets v)
 val_low (number8 n) h = (h, tt)
 val_low (number16 n) h = (omega (arith, h), (omega arith, tt))
 val_low (number32 n) h = (omega (arith, h), (omega arith, (omega arith, (omega arith, tt))))
+val_low (time n) h = (omega (arith, h), (omega arith, (omega arith, (omega arith, tt))))
+val_low (rtype n) h = (omega (arith, h), (omega arith, tt))
 val_low (ipv4 os) h = h.1
+val_low (ipv6 os) h = h.1
 val_low (name ls) h = labels_low 254 ls h.0 h.1
 val_low (string s) h = (omega (arith, h.0), h.1)
 val_low (strings ss) h = strings_low ss h
 val_low (tag s) h = (omega (arith, h.0), h.1)
 val_low (quoted s) h = h
 val_low (base16 os) h = h
+val_low (base64 os) h = h
+val_low (counted16 s) h = (omega (arith, h.0), h.1)
 val_low (generic os) h = h
 
 pub vals_low : (kinds : List FieldKind) (vs : List Val) → AllHeld kinds vs → AreOctets (vals_octets vs)

@@ -5,8 +5,13 @@ pub mod Strung
 pub mod Tables
 pub mod Splitting
 pub mod Reading
+pub mod Types
+pub mod Seconds
 pub mod Dotting
+pub mod Runs
+pub mod Colons
 pub mod Digits
+pub mod Sextets
 pub mod Holding
 pub mod Gathering
 pub mod Plainly

@@ -25,7 +25,7 @@ pub none_some : {A : Type 0} (a : A) → None ≡ Some a → ⊥
 none_some a e = cc
 
 -- a choice that gave something
-cond_some : {A : Type 0} (b : Bool) (x y : Option A) (t : A) (G : Type 0) → (b ≡ true → x ≡ Some t → G) → (b ≡ false → y ≡ Some t → G) → cond b x y ≡ Some t → G
+pub cond_some : {A : Type 0} (b : Bool) (x y : Option A) (t : A) (G : Type 0) → (b ≡ true → x ≡ Some t → G) → (b ≡ false → y ≡ Some t → G) → cond b x y ≡ Some t → G
 cond_some true x y t G f g h = f refl h
 cond_some false x y t G f g h = g refl h
 

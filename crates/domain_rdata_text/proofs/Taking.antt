@@ -9,21 +9,29 @@ use Rattle.domain_rdata_text.specs.declared.error.Fault.{Fault}
 use Rattle.domain_rdata_text.specs.declared.error.Reason.{Reason}
 use Rattle.domain_rdata_text.specs.declared.error.Reason.TheVariants as reasons
 use Rattle.domain_rdata_text.specs.Addresses.{dotted, ipv4_text, read_ipv4}
-use Rattle.domain_rdata_text.specs.Hex.{hex_text, octets_or_fault, hex_words, hex_in_words}
+use Rattle.domain_rdata_text.specs.Ipv6.{ipv6_text, read_ipv6}
+use Rattle.domain_rdata_text.specs.Base64.{base64_text, base64_in_words, read_base64}
+use Rattle.domain_rdata_text.specs.Hex.{hex_text, counted_text, read_counted, octets_or_fault, hex_words, hex_in_words}
 use Rattle.domain_rdata_text.specs.Laws.{AreOctets}
 use Rattle.domain_rdata_text.specs.Names.{label_text, name_text, read_name}
 use Rattle.domain_rdata_text.specs.Numbers.{read_number}
-use Rattle.domain_rdata_text.specs.Strings.{string_text, read_string, read_quoted}
+use Rattle.domain_rdata_text.specs.Rtypes.{type_text, read_type}
+use Rattle.domain_rdata_text.specs.Strings.{string_text, only_short, read_string, read_quoted}
 use Rattle.domain_rdata_text.specs.Texts.{val_words, has_text, takes_all, read_tag, so_far, with_octets, one, all, string_or_fault, strings_words, take_field}
+use Rattle.domain_rdata_text.specs.Times.{read_time}
 use Rattle.domain_rdata_text.specs.Values.{Val, form_of_val, counted, val_octets, is_tag}
-use Rattle.domain_rdata_text.specs.Values.Val.{number8, number16, number32, ipv4, name, string, strings, tag, quoted, base16, generic}
+use Rattle.domain_rdata_text.specs.Values.Val.{number8, number16, number32, time, rtype, ipv4, ipv6, name, string, strings, tag, quoted, base16, base64, counted16, generic}
 use Rattle.domain_rdata_text.specs.Words.{WordAt, word}
+use Rattle.domain_rdata_text.proofs.Colons.{ipv6_back, bare_ipv6, ipv6_some}
 use Rattle.domain_rdata_text.proofs.Digits.{hex_back, bare_hex}
 use Rattle.domain_rdata_text.proofs.Dotting.{ipv4_back, bare_ipv4}
 use Rattle.domain_rdata_text.proofs.Holding.{IsVal}
 use Rattle.domain_rdata_text.proofs.Reading.{name_back, string_back, quoted_back, number_back}
-use Rattle.domain_rdata_text.proofs.Splitting.{IsWord, ends_before, placed, bare_name, bare_string, bare_number, bare_letters}
+use Rattle.domain_rdata_text.proofs.Sextets.{base64_back, bare_base64, base64_some}
+use Rattle.domain_rdata_text.proofs.Splitting.{IsWord, ends_before, placed, bare_one, bare_name, bare_string, bare_number, bare_letters}
+use Rattle.domain_rdata_text.proofs.Seconds.{time_back}
 use Rattle.domain_rdata_text.proofs.Strung.{IsString}
+use Rattle.domain_rdata_text.proofs.Types.{type_back, bare_type, type_some}
 
 -- ---- each value is of words
 label_some : (l rest : List ℕ) → 0 < length (label_text l ++ rest)
@@ -58,17 +66,30 @@ pub hex_are_words : (os : List ℕ) → AreOctets os → AllByRecursion IsWord (
 hex_are_words [] b = tt
 hex_are_words (c ∷ os) b = ((bare_hex (c ∷ os) b, omega arith), tt)
 
+counted16_word : (s : List ℕ) → AreOctets s → IsWord (counted_text s)
+counted16_word [] b = (bare_one 45 refl, omega arith)
+counted16_word (c ∷ os) b = (bare_hex (c ∷ os) b, omega arith)
+
+base64_are_words : (os : List ℕ) → AreOctets os → AllByRecursion IsWord (base64_in_words os)
+base64_are_words [] b = tt
+base64_are_words (c ∷ os) b = ((bare_base64 (c ∷ os) b, base64_some c os b.0), tt)
+
 pub are_words : (v : Val) → IsVal v → AllByRecursion IsWord (val_words v)
 are_words (number8 n) h = (number_word n (omega (arith, h)), tt)
 are_words (number16 n) h = (number_word n (omega (arith, h)), tt)
 are_words (number32 n) h = (number_word n (omega (arith, h)), tt)
+are_words (time n) h = (number_word n (omega (arith, h)), tt)
+are_words (rtype n) h = ((bare_type n h, type_some n), tt)
 are_words (ipv4 os) h = ((bare_ipv4 os h.1, ipv4_some os h.0 h.1), tt)
+are_words (ipv6 os) h = ((bare_ipv6 os h.1, ipv6_some os h.0 h.1), tt)
 are_words (name ls) h = ((bare_name ls h.1, name_some ls), tt)
 are_words (string s) h = (string_word s h.1, tt)
 are_words (strings ss) h = strings_are_words ss h
 are_words (tag s) h = (tag_word s h.1 h.2, tt)
 are_words (quoted s) h = (string_word s h, tt)
 are_words (base16 os) h = hex_are_words os h
+are_words (base64 os) h = base64_are_words os h
+are_words (counted16 s) h = (counted16_word s h.1, tt)
 are_words (generic os) h = tt
 
 -- ---- which are taken
@@ -93,6 +114,14 @@ hex_taken n c cs b os =
     let at = n - length (hex_text (c ∷ cs)) in
     ap (λ (x : Option (List ℕ)). hex_words (octets_or_fault at x) []) (hex_back (c ∷ cs) b os)
 
+counted16_back : (s : List ℕ) → length s ≤ 255 → AreOctets s → read_counted (counted_text s) ≡ Some s
+counted16_back [] h b = refl
+counted16_back (c ∷ os) h b =
+    ap only_short (hex_back (c ∷ os) b []) ∙ cond-true (nat_le (length (c ∷ os)) 255) (Some (c ∷ os)) None (le-leb (length (c ∷ os)) 255 h)
+
+base64_taken : (c : ℕ) (cs : List ℕ) → AreOctets (c ∷ cs) → read_base64 (base64_text (c ∷ cs) ++ []) ≡ Some (c ∷ cs)
+base64_taken c cs b = ap read_base64 (append-nil (base64_text (c ∷ cs))) ∙ base64_back (c ∷ cs) b
+
 pub hex_all_back : (n : ℕ) (os : List ℕ) → AreOctets os → hex_words (Ok []) (placed n (hex_in_words os)) ≡ Ok os
 hex_all_back n [] b = refl
 hex_all_back n (c ∷ cs) b = hex_taken n c cs b []
@@ -109,8 +138,14 @@ taken_back n len (number16 x) us h t l os =
     one_back number16 reasons.Number os (word (ends_before n us - length (decimal x)) (decimal x)) (placed n us) (read_number 65536 (decimal x)) x (number_back 65536 x h (omega (arith, h)))
 taken_back n len (number32 x) us h t l os =
     one_back number32 reasons.Number os (word (ends_before n us - length (decimal x)) (decimal x)) (placed n us) (read_number 4294967296 (decimal x)) x (number_back 4294967296 x h (omega (arith, h)))
+taken_back n len (time x) us h t l os =
+    one_back time reasons.Time os (word (ends_before n us - length (decimal x)) (decimal x)) (placed n us) (read_time (decimal x)) x (time_back x h)
+taken_back n len (rtype x) us h t l os =
+    one_back rtype reasons.Rtype os (word (ends_before n us - length (type_text x)) (type_text x)) (placed n us) (read_type (type_text x)) x (type_back x h)
 taken_back n len (ipv4 o) us h t l os =
     one_back ipv4 reasons.Ipv4 os (word (ends_before n us - length (ipv4_text o)) (ipv4_text o)) (placed n us) (read_ipv4 (ipv4_text o)) o (ipv4_back o h.0 h.1)
+taken_back n len (ipv6 o) us h t l os =
+    one_back ipv6 reasons.Ipv6 os (word (ends_before n us - length (ipv6_text o)) (ipv6_text o)) (placed n us) (read_ipv6 (ipv6_text o)) o (ipv6_back o h.0 h.1)
 taken_back n len (name ls) us h t l os =
     one_back name reasons.Name os (word (ends_before n us - length (name_text ls)) (name_text ls)) (placed n us) (read_name (name_text ls)) ls (name_back ls h.0 h.1)
 taken_back n len (string s) us h t l os =
@@ -133,4 +168,14 @@ taken_back n len (base16 (c ∷ cs)) us h t l os =
     ap (λ (x : List (List ℕ)). take_field len (form_of_val (base16 (c ∷ cs))) os (placed n x)) same
     ∙ (ap (λ (x : Result (List ℕ) Fault). all x) (hex_taken n c cs h os)
     ∙ ap (λ (x : List (List ℕ)). Ok (so_far (os ++ c ∷ cs) (placed n x))) (sym none))
+taken_back n len (base64 []) us h t l os = absurd (false≢true t)
+taken_back n len (base64 (c ∷ cs)) us h t l os =
+    let none = l refl in
+    let text = base64_text (c ∷ cs) in
+    let same = no_others (base64_in_words (c ∷ cs)) us none in
+    ap (λ (x : List (List ℕ)). take_field len (form_of_val (base64 (c ∷ cs))) os (placed n x)) same
+    ∙ (one_back base64 reasons.Base64 os (word (n - length text) text) [] (read_base64 (text ++ [])) (c ∷ cs) (base64_taken c cs h)
+    ∙ ap (λ (x : List (List ℕ)). Ok (so_far (os ++ c ∷ cs) (placed n x))) (sym none))
+taken_back n len (counted16 s) us h t l os =
+    one_back counted16 reasons.CountedBase16 os (word (ends_before n us - length (counted_text s)) (counted_text s)) (placed n us) (read_counted (counted_text s)) s (counted16_back s h.0 h.1)
 taken_back n len (generic o) us h t l os = absurd (false≢true t)

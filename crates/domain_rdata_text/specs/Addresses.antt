@@ -13,10 +13,10 @@ abbrev pub ipv4_text : List ℕ → List ℕ
 ipv4_text [] = []
 ipv4_text (n ∷ ns) = decimal n ++ dotted ns
 
--- what is between dots, after pieces and an open one
-abbrev pub pieces_from : List (List ℕ) → List ℕ → List ℕ → List (List ℕ)
-pieces_from ps p [] = ps ++ p ∷ []
-pieces_from ps p (c ∷ cs) = if c == 46 then pieces_from (ps ++ p ∷ []) [] cs else pieces_from ps (p ++ c ∷ []) cs
+-- what is between separators, after pieces and an open one
+abbrev pub pieces_from : ℕ → List (List ℕ) → List ℕ → List ℕ → List (List ℕ)
+pieces_from sep ps p [] = ps ++ p ∷ []
+pieces_from sep ps p (c ∷ cs) = if c == sep then pieces_from sep (ps ++ p ∷ []) [] cs else pieces_from sep ps (p ++ c ∷ []) cs
 
 -- numbers, and one more
 abbrev pub with_number : List ℕ → Option ℕ → Option (List ℕ)
@@ -36,4 +36,4 @@ only_four (Some ns) = if length ns == 4 then Some ns else None
 
 -- the address that a word is
 abbrev pub read_ipv4 : List ℕ → Option (List ℕ)
-read_ipv4 word = only_four (octets_from (Some []) (pieces_from [] [] word))
+read_ipv4 word = only_four (octets_from (Some []) (pieces_from 46 [] [] word))

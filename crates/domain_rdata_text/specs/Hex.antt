@@ -10,6 +10,7 @@ use Rattle.domain_rdata_text.specs.Outcome.{fault}
 use Rattle.domain_rdata_text.specs.Words.{WordAt}
 use Rattle.domain_rdata_text.specs.Symbols.{is_digit}
 use Rattle.domain_rdata_text.specs.Numbers.{read_number}
+use Rattle.domain_rdata_text.specs.Strings.{only_short}
 
 -- the digit of a number below 16, in lower case
 abbrev pub hex_digit : ℕ → ℕ
@@ -48,6 +49,22 @@ hex_from os Even [] = Some os
 hex_from os Even (c ∷ cs) = if is_hex c then hex_from os (High (hex_value c)) cs else None
 hex_from os (High n) [] = None
 hex_from os (High n) (c ∷ cs) = if is_hex c then hex_from (os ++ (n * 16 + hex_value c) ∷ []) Even cs else None
+
+-- octets in digits, or a hyphen where there is none (RFC 5155, 3.3)
+abbrev pub counted_text : List ℕ → List ℕ
+counted_text [] = 45 ∷ []
+counted_text (c ∷ os) = hex_text (c ∷ os)
+
+-- whether the word is a hyphen
+abbrev pub is_hyphen : List ℕ → Bool
+is_hyphen [] = false
+is_hyphen (c ∷ []) = c == 45
+is_hyphen (c ∷ d ∷ w) = false
+
+-- the octets, at most 255, that a word is: a hyphen, or digits
+abbrev pub read_counted : List ℕ → Option (List ℕ)
+read_counted [] = None
+read_counted (c ∷ w) = if is_hyphen (c ∷ w) then Some [] else only_short (hex_from [] Even (c ∷ w))
 
 -- octets that were read of the word at an offset
 abbrev pub octets_or_fault : ℕ → Option (List ℕ) → Result (List ℕ) Fault

@@ -4,8 +4,12 @@ pub mod Symbols
 pub mod Names
 pub mod Strings
 pub mod Numbers
+pub mod Rtypes
+pub mod Times
 pub mod Addresses
 pub mod Hex
+pub mod Ipv6
+pub mod Base64
 pub mod Forms
 pub mod Values
 pub mod Texts

@@ -11,14 +11,18 @@ use Rattle.domain_rdata_text.specs.declared.error.Reason.TheVariants as reasons
 use Rattle.domain_rdata_text.specs.declared.form.TextForm.{TextForm}
 use Rattle.domain_rdata_text.specs.declared.form.TextForm.TheVariants as forms
 use Rattle.domain_rdata_text.specs.Addresses.{ipv4_text, read_ipv4}
+use Rattle.domain_rdata_text.specs.Base64.{base64_in_words, read_base64, together}
 use Rattle.domain_rdata_text.specs.Forms.{text_form}
-use Rattle.domain_rdata_text.specs.Hex.{hex_in_words, hex_words, generic_words, is_mark_word, read_generic}
+use Rattle.domain_rdata_text.specs.Ipv6.{ipv6_text, read_ipv6}
+use Rattle.domain_rdata_text.specs.Hex.{counted_text, read_counted, hex_in_words, hex_words, generic_words, is_mark_word, read_generic}
 use Rattle.domain_rdata_text.specs.Names.{name_text, read_name}
 use Rattle.domain_rdata_text.specs.Numbers.{read_number}
 use Rattle.domain_rdata_text.specs.Outcome.{fault}
+use Rattle.domain_rdata_text.specs.Rtypes.{type_text, read_type}
 use Rattle.domain_rdata_text.specs.Strings.{string_text, read_string, read_quoted}
+use Rattle.domain_rdata_text.specs.Times.{read_time}
 use Rattle.domain_rdata_text.specs.Values.{Val, val_octets, vals_octets, is_tag, ValuesAt}
-use Rattle.domain_rdata_text.specs.Values.Val.{number8, number16, number32, ipv4, name, string, strings, tag, quoted, base16, generic}
+use Rattle.domain_rdata_text.specs.Values.Val.{number8, number16, number32, time, rtype, ipv4, ipv6, name, string, strings, tag, quoted, base16, base64, counted16, generic}
 use Rattle.domain_rdata_text.specs.Words.{WordAt, split, joined}
 
 -- the words of a field
@@ -26,13 +30,18 @@ abbrev pub val_words : Val → List (List ℕ)
 val_words (number8 n) = decimal n ∷ []
 val_words (number16 n) = decimal n ∷ []
 val_words (number32 n) = decimal n ∷ []
+val_words (time n) = decimal n ∷ []
+val_words (rtype n) = type_text n ∷ []
 val_words (ipv4 os) = ipv4_text os ∷ []
+val_words (ipv6 os) = ipv6_text os ∷ []
 val_words (name ls) = name_text ls ∷ []
 val_words (string s) = string_text s ∷ []
 val_words (strings ss) = map string_text ss
 val_words (tag s) = s ∷ []
 val_words (quoted s) = string_text s ∷ []
 val_words (base16 os) = hex_in_words os
+val_words (base64 os) = base64_in_words os
+val_words (counted16 os) = counted_text os ∷ []
 val_words (generic os) = []
 
 -- whether a list has a member
@@ -49,13 +58,18 @@ abbrev pub has_text : Val → Bool
 has_text (number8 n) = true
 has_text (number16 n) = true
 has_text (number32 n) = true
+has_text (time n) = true
+has_text (rtype n) = true
 has_text (ipv4 os) = true
+has_text (ipv6 os) = true
 has_text (name ls) = true
 has_text (string s) = true
 has_text (strings ss) = is_some_list ss
 has_text (tag s) = true
 has_text (quoted s) = true
 has_text (base16 os) = is_some_list os
+has_text (base64 os) = is_some_list os
+has_text (counted16 os) = true
 has_text (generic os) = false
 
 -- whether it takes all words that are left
@@ -63,13 +77,18 @@ abbrev pub takes_all : Val → Bool
 takes_all (number8 n) = false
 takes_all (number16 n) = false
 takes_all (number32 n) = false
+takes_all (time n) = false
+takes_all (rtype n) = false
 takes_all (ipv4 os) = false
+takes_all (ipv6 os) = false
 takes_all (name ls) = false
 takes_all (string s) = false
 takes_all (strings ss) = true
 takes_all (tag s) = false
 takes_all (quoted s) = false
 takes_all (base16 os) = true
+takes_all (base64 os) = true
+takes_all (counted16 os) = false
 takes_all (generic os) = false
 
 -- Whether data is written field by field: each has a text, and none but the last takes all words that are left.
@@ -130,13 +149,18 @@ abbrev pub take_words : TextForm → List ℕ → WordAt → List WordAt → Res
 take_words forms.Number8 os w ws = one reasons.Number w ws (with_octets number8 os (read_number 256 w.octets))
 take_words forms.Number16 os w ws = one reasons.Number w ws (with_octets number16 os (read_number 65536 w.octets))
 take_words forms.Number32 os w ws = one reasons.Number w ws (with_octets number32 os (read_number 4294967296 w.octets))
+take_words forms.Time os w ws = one reasons.Time w ws (with_octets time os (read_time w.octets))
+take_words forms.Rtype os w ws = one reasons.Rtype w ws (with_octets rtype os (read_type w.octets))
 take_words forms.Ipv4 os w ws = one reasons.Ipv4 w ws (with_octets ipv4 os (read_ipv4 w.octets))
+take_words forms.Ipv6 os w ws = one reasons.Ipv6 w ws (with_octets ipv6 os (read_ipv6 w.octets))
 take_words forms.Name os w ws = one reasons.Name w ws (with_octets name os (read_name w.octets))
 take_words forms.CharString os w ws = one reasons.CharString w ws (with_octets string os (read_string w.octets))
 take_words forms.CharStrings os w ws = all (strings_words (Ok os) (w ∷ ws))
 take_words forms.Tag os w ws = one reasons.Tag w ws (with_octets tag os (read_tag w.octets))
 take_words forms.QuotedText os w ws = one reasons.QuotedText w ws (with_octets quoted os (read_quoted w.octets))
 take_words forms.Base16 os w ws = all (hex_words (Ok os) (w ∷ ws))
+take_words forms.Base64 os w ws = one reasons.Base64 w [] (with_octets base64 os (read_base64 (together (w ∷ ws))))
+take_words forms.CountedBase16 os w ws = one reasons.CountedBase16 w ws (with_octets counted16 os (read_counted w.octets))
 take_words forms.Generic os w ws = Err (fault w.begin reasons.OnlyGeneric)
 
 -- the same, in a text of n octets, where a word may be missing

@@ -18,19 +18,24 @@ use Rattle.domain_rdata_text.specs.declared.value.Value.TheVariants as held
 use Rattle.domain_rdata_text.specs.Forms.{text_form}
 use Rattle.domain_rdata_text.specs.Words.{lists}
 
--- What a field holds: a number; the octets of an address; a name by its labels before the root; the octets of a
--- string, of several, of a tag or of what is between quotes; or octets that are all of the field.
+-- What a field holds: a number; a time; a type; the octets of an address; a name by its labels before the root; the
+-- octets of a string, of several, of a tag or of what is between quotes; or octets that are all of the field.
 pub data Val : Type 0 where
   number8 : ℕ → Val
   number16 : ℕ → Val
   number32 : ℕ → Val
+  time : ℕ → Val
+  rtype : ℕ → Val
   ipv4 : List ℕ → Val
+  ipv6 : List ℕ → Val
   name : List (List ℕ) → Val
   string : List ℕ → Val
   strings : List (List ℕ) → Val
   tag : List ℕ → Val
   quoted : List ℕ → Val
   base16 : List ℕ → Val
+  base64 : List ℕ → Val
+  counted16 : List ℕ → Val
   generic : List ℕ → Val
 
 -- what a value of the program is
@@ -38,13 +43,18 @@ abbrev pub val_of : Value → Val
 val_of (held.Number8 n) = number8 n
 val_of (held.Number16 n) = number16 n
 val_of (held.Number32 n) = number32 n
+val_of (held.Time n) = time n
+val_of (held.Rtype n) = rtype n
 val_of (held.Ipv4 os) = ipv4 os.items
+val_of (held.Ipv6 os) = ipv6 os.items
 val_of (held.Name ls) = name (lists ls.items)
 val_of (held.CharString s) = string s.items
 val_of (held.CharStrings ss) = strings (lists ss.items)
 val_of (held.Tag s) = tag s.items
 val_of (held.QuotedText s) = quoted s.items
 val_of (held.Base16 os) = base16 os.items
+val_of (held.Base64 os) = base64 os.items
+val_of (held.CountedBase16 os) = counted16 os.items
 val_of (held.Generic os) = generic os.items
 
 -- what several fields of the program hold
@@ -56,13 +66,18 @@ abbrev pub form_of_val : Val → TextForm
 form_of_val (number8 n) = forms.Number8
 form_of_val (number16 n) = forms.Number16
 form_of_val (number32 n) = forms.Number32
+form_of_val (time n) = forms.Time
+form_of_val (rtype n) = forms.Rtype
 form_of_val (ipv4 os) = forms.Ipv4
+form_of_val (ipv6 os) = forms.Ipv6
 form_of_val (name ls) = forms.Name
 form_of_val (string s) = forms.CharString
 form_of_val (strings ss) = forms.CharStrings
 form_of_val (tag s) = forms.Tag
 form_of_val (quoted s) = forms.QuotedText
 form_of_val (base16 os) = forms.Base16
+form_of_val (base64 os) = forms.Base64
+form_of_val (counted16 os) = forms.CountedBase16
 form_of_val (generic os) = forms.Generic
 
 -- octets behind one that tells how many they are (RFC 1035, 3.3)
@@ -74,13 +89,18 @@ abbrev pub val_octets : Val → List ℕ
 val_octets (number8 n) = n ∷ []
 val_octets (number16 n) = (n / 256) ∷ (n % 256) ∷ []
 val_octets (number32 n) = (n / 16777216) ∷ (n / 65536 % 256) ∷ (n / 256 % 256) ∷ (n % 256) ∷ []
+val_octets (time n) = (n / 16777216) ∷ (n / 65536 % 256) ∷ (n / 256 % 256) ∷ (n % 256) ∷ []
+val_octets (rtype n) = (n / 256) ∷ (n % 256) ∷ []
 val_octets (ipv4 os) = os
+val_octets (ipv6 os) = os
 val_octets (name ls) = wire (ls ++ Root)
 val_octets (string s) = counted s
 val_octets (strings ss) = flat_map counted ss
 val_octets (tag s) = counted s
 val_octets (quoted s) = s
 val_octets (base16 os) = os
+val_octets (base64 os) = os
+val_octets (counted16 os) = counted os
 val_octets (generic os) = os
 
 -- the octets of fields
@@ -99,6 +119,12 @@ number16_in (a ∷ []) = generic (a ∷ [])
 number16_in (a ∷ b ∷ []) = number16 (a * 256 + b)
 number16_in (a ∷ b ∷ c ∷ os) = generic (a ∷ b ∷ c ∷ os)
 
+abbrev pub rtype_in : List ℕ → Val
+rtype_in [] = generic []
+rtype_in (a ∷ []) = generic (a ∷ [])
+rtype_in (a ∷ b ∷ []) = rtype (a * 256 + b)
+rtype_in (a ∷ b ∷ c ∷ os) = generic (a ∷ b ∷ c ∷ os)
+
 abbrev pub number32_in : List ℕ → Val
 number32_in [] = generic []
 number32_in (a ∷ []) = generic (a ∷ [])
@@ -107,13 +133,29 @@ number32_in (a ∷ b ∷ c ∷ []) = generic (a ∷ b ∷ c ∷ [])
 number32_in (a ∷ b ∷ c ∷ d ∷ []) = number32 (a * 16777216 + b * 65536 + c * 256 + d)
 number32_in (a ∷ b ∷ c ∷ d ∷ e ∷ os) = generic (a ∷ b ∷ c ∷ d ∷ e ∷ os)
 
+abbrev pub time_in : List ℕ → Val
+time_in [] = generic []
+time_in (a ∷ []) = generic (a ∷ [])
+time_in (a ∷ b ∷ []) = generic (a ∷ b ∷ [])
+time_in (a ∷ b ∷ c ∷ []) = generic (a ∷ b ∷ c ∷ [])
+time_in (a ∷ b ∷ c ∷ d ∷ []) = time (a * 16777216 + b * 65536 + c * 256 + d)
+time_in (a ∷ b ∷ c ∷ d ∷ e ∷ os) = generic (a ∷ b ∷ c ∷ d ∷ e ∷ os)
+
 abbrev pub ipv4_in : List ℕ → Val
 ipv4_in os = if length os == 4 then ipv4 os else generic os
+
+abbrev pub ipv6_in : List ℕ → Val
+ipv6_in os = if length os == 16 then ipv6 os else generic os
 
 -- a character string, where the first octet says how many follow
 abbrev pub string_in : List ℕ → Val
 string_in [] = generic []
 string_in (n ∷ s) = if length s == n then string s else generic (n ∷ s)
+
+-- octets, where the first one says how many follow
+abbrev pub counted16_in : List ℕ → Val
+counted16_in [] = generic []
+counted16_in (n ∷ s) = if length s == n then counted16 s else generic (n ∷ s)
 
 -- Character strings after strings. Between them an octet tells how many octets the next has; inside of one some were
 -- read, and k are to come.
@@ -147,13 +189,18 @@ abbrev pub val_in : TextForm → List ℕ → Val
 val_in forms.Number8 os = number8_in os
 val_in forms.Number16 os = number16_in os
 val_in forms.Number32 os = number32_in os
+val_in forms.Time os = time_in os
+val_in forms.Rtype os = rtype_in os
 val_in forms.Ipv4 os = ipv4_in os
+val_in forms.Ipv6 os = ipv6_in os
 val_in forms.Name os = generic os
 val_in forms.CharString os = string_in os
 val_in forms.CharStrings os = strings_or os (strings_in [] [] Between os)
 val_in forms.Tag os = tag_in os
 val_in forms.QuotedText os = quoted os
 val_in forms.Base16 os = base16 os
+val_in forms.Base64 os = base64 os
+val_in forms.CountedBase16 os = counted16_in os
 val_in forms.Generic os = generic os
 
 -- The field of this kind at p, which ends before e, holds this: a name, or what its octets say.

@@ -49,16 +49,20 @@ pub(crate) fn append_ipv4_word(
     Ok(())
 }
 
-/// What is between dots.
-fn pieces_of(alloc: Global, word: &[u8]) -> Result<Vec<Vec<u8>>, ReadError>
-    ensures ok { IfOk result (λ made. pieces_from [] [] word.now ≡ lists made.items) }
+/// What is between separators.
+pub(crate) fn pieces_of(
+    alloc: Global,
+    separator: u8,
+    word: &[u8],
+) -> Result<Vec<Vec<u8>>, ReadError>
+    ensures ok { IfOk result (λ made. pieces_from separator [] [] word.now ≡ lists made.items) }
     ensures err { IfErr result (λ e. e ≡ ReadError.Memory) }
 {
     let mut pieces = Vec::new(alloc);
     let mut piece = Vec::new(alloc);
     let mut rest = word;
     'octet: while let [octet, after @ ..] = rest {
-        if *octet == b'.' {
+        if *octet == separator {
             let whole = mem::replace(&mut piece, Vec::new(alloc));
             push_list(whole, &mut pieces)?;
         } else {
@@ -92,7 +96,7 @@ pub(crate) fn ipv4_of(alloc: Global, refusal: Fault, word: &[u8]) -> Result<Vec<
     ensures err { IfRefused result refusal (read_ipv4 word.now ≡ None) }
     ensures given { RefusesWith result refusal }
 {
-    let pieces = pieces_of(alloc, word)?;
+    let pieces = pieces_of(alloc, b'.', word)?;
     let octets = numbers_of(alloc, refusal, pieces.as_slice())?;
     if octets.len() != 4 {
         return Err(ReadError::Refused(refusal));

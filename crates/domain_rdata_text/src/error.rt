@@ -17,8 +17,15 @@ pub enum Reason {
     ExtraWord,
     /// The word isn't a number in decimal digits, or one of too many bits.
     Number,
+    /// The word isn't the mnemonic of a type, or `TYPE` and a number of 16 bits (RFC 3597, 5).
+    Rtype,
+    /// The word isn't a number of 32 bits, or 14 digits that are a date from 1970 on and a time of day (RFC 4034,
+    /// 3.2).
+    Time,
     /// The word isn't four numbers below 256 with dots between them.
     Ipv4,
+    /// The word isn't an IPv6 address (RFC 4291, 2.2).
+    Ipv6,
     /// The word isn't an absolute name of at most 255 octets with its final dot (RFC 1035, 2.3.4).
     Name,
     /// The word isn't a character string of at most 255 octets.
@@ -29,6 +36,10 @@ pub enum Reason {
     QuotedText,
     /// The word isn't hexadecimal digits, two for each octet (RFC 4648, 8).
     Base16,
+    /// The words from this one on aren't the base64 text of octets (RFC 4648, 4).
+    Base64,
+    /// The word isn't a hyphen, or hexadecimal digits of at most 255 octets (RFC 5155, 3.3).
+    CountedBase16,
     /// A field that has no form of its own: data of its type is read after `\#` alone.
     OnlyGeneric,
     /// After `\#` there aren't as many octets as this number says.

@@ -14,8 +14,14 @@ pub enum TextForm {
     Number16,
     /// A number of 32 bits in decimal digits.
     Number32,
+    /// The seconds since 1970 began in decimal digits (RFC 4034, 3.2).
+    Time,
+    /// The mnemonic of a type, or `TYPE` and its number (RFC 3597, 5).
+    Rtype,
     /// Four numbers with dots between them (RFC 1035, 3.4.1).
     Ipv4,
+    /// Groups of hexadecimal digits with colons between them (RFC 5952, 4).
+    Ipv6,
     /// An absolute name, with its final dot (RFC 1035, 5.1).
     Name,
     /// A character string between quotes.
@@ -28,6 +34,10 @@ pub enum TextForm {
     QuotedText,
     /// Octets in hexadecimal digits (RFC 4648, 8).
     Base16,
+    /// Octets in base64 (RFC 4648, 4).
+    Base64,
+    /// Octets in hexadecimal digits, or a hyphen where there is none (RFC 5155, 3.3).
+    CountedBase16,
     /// No form of its own.
     Generic,
 }
@@ -44,24 +54,24 @@ pub fn text_form(kind: FieldKind) -> TextForm
         FieldKind::Number64 => TextForm::Generic,
         FieldKind::Ttl => TextForm::Number32,
         FieldKind::Serial => TextForm::Number32,
-        FieldKind::Time => TextForm::Generic,
-        FieldKind::Rtype => TextForm::Generic,
+        FieldKind::Time => TextForm::Time,
+        FieldKind::Rtype => TextForm::Rtype,
         FieldKind::Ipv4 => TextForm::Ipv4,
-        FieldKind::Ipv6 => TextForm::Generic,
+        FieldKind::Ipv6 => TextForm::Ipv6,
         FieldKind::Name => TextForm::Name,
         FieldKind::CharString => TextForm::CharString,
         FieldKind::OptionalString => TextForm::Generic,
         FieldKind::CharStrings => TextForm::CharStrings,
         FieldKind::Tag => TextForm::Tag,
         FieldKind::QuotedText => TextForm::QuotedText,
-        FieldKind::CountedBase16 => TextForm::Generic,
+        FieldKind::CountedBase16 => TextForm::CountedBase16,
         FieldKind::CountedBase32 => TextForm::Generic,
         FieldKind::CountedBase64 => TextForm::Generic,
         FieldKind::TypeBitmaps => TextForm::Generic,
         FieldKind::OptionalTypeBitmaps => TextForm::Generic,
         FieldKind::SvcParams => TextForm::Generic,
         FieldKind::Base16 => TextForm::Base16,
-        FieldKind::Base64 => TextForm::Generic,
+        FieldKind::Base64 => TextForm::Base64,
         FieldKind::Octets => TextForm::Generic,
     }
 }

@@ -4,25 +4,34 @@ ghost use Rattle.domain_descriptor.specs.Table.{known_fields};
 ghost use Rattle.domain_rdata_text.specs.Forms.{text_form};
 ghost use Rattle.domain_rdata_text.specs.Outcome.{fault, IfFault, IfRefused, RefusesWith, AppendedTo};
 ghost use Rattle.domain_rdata_text.specs.Addresses.{read_ipv4};
-ghost use Rattle.domain_rdata_text.specs.Hex.{read_generic};
+ghost use Rattle.domain_rdata_text.specs.Base64.{read_base64, together};
+ghost use Rattle.domain_rdata_text.specs.Hex.{read_generic, read_counted};
+ghost use Rattle.domain_rdata_text.specs.Ipv6.{read_ipv6};
 ghost use Rattle.domain_rdata_text.specs.Numbers.{read_number};
+ghost use Rattle.domain_rdata_text.specs.Rtypes.{read_type};
 ghost use Rattle.domain_rdata_text.specs.Strings.{read_string, read_quoted};
+ghost use Rattle.domain_rdata_text.specs.Times.{read_time};
 ghost use Rattle.domain_rdata_text.specs.Texts.{read_tag, with_octets, strings_words, take_words, take_field, so_far, read_fields, fields_octets, text_octets};
 ghost use Rattle.domain_rdata_text.specs.Texts.{starts_mark, mark_offset, IsGenericText, IsPlain, IsNotPlain, IsGenericFault, IsReadFault};
 ghost use Rattle.domain_rdata_text.specs.declared.error.Reason.TheVariants.{NotData};
 ghost use Rattle.domain_rdata_text.specs.Values.Val.{number8 as held_number8, number16 as held_number16, number32 as held_number32};
-ghost use Rattle.domain_rdata_text.specs.Values.Val.{ipv4 as held_ipv4, string as held_string, tag as held_tag, quoted as held_quoted};
+ghost use Rattle.domain_rdata_text.specs.Values.Val.{ipv4 as held_ipv4, ipv6 as held_ipv6, string as held_string, tag as held_tag, quoted as held_quoted};
+ghost use Rattle.domain_rdata_text.specs.Values.Val.{base64 as held_base64, counted16 as held_counted16, rtype as held_rtype, time as held_time};
 ghost use Rattle.domain_rdata_text.specs.Values.{counted};
 ghost use Rattle.domain_rdata_text.specs.Words.{word_of, words_of, lists};
 
 use crate::address::ipv4_of;
+use crate::base64_text::base64_of;
 use crate::error::{Fault, ReadError, Reason, refused};
 use crate::form::{TextForm, text_form};
-use crate::hex::{generic_of, is_mark, push_hex_words};
+use crate::hex::{counted_of, generic_of, is_mark, push_hex_words};
+use crate::ipv6::ipv6_of;
 use crate::name::push_name;
 use crate::number::number_of;
 use crate::push::{push, push_all};
+use crate::rtype::type_of;
 use crate::string::{quoted_of, string_of};
+use crate::time::time_of;
 use crate::value::{are_of_tag, plain_data};
 use crate::words::{Word, split_words};
 use domain_descriptor::{FieldKind, Rdata, known_fields};
@@ -53,6 +62,18 @@ fn push_number16(refusal: Fault, word: &[u8], made: &mut Vec<u8>) -> Result<(), 
     Ok(())
 }
 
+/// Appends the type that a word is. It is refused with the fault that is passed.
+fn push_rtype(refusal: Fault, word: &[u8], made: &mut Vec<u8>) -> Result<(), ReadError>
+    ensures ok { OnOk result
+        (with_octets held_rtype made.old.items (read_type word.now) ≡ Some made.new.items) }
+    ensures err { IfRefused result refusal (read_type word.now ≡ None) }
+    ensures given { RefusesWith result refusal }
+{
+    let number = type_of(refusal, word)?;
+    push_all(&[(number / 256) as u8, (number % 256) as u8], made)?;
+    Ok(())
+}
+
 /// Appends the number of 32 bits that a word is. It is refused with the fault that is passed.
 fn push_number32(refusal: Fault, word: &[u8], made: &mut Vec<u8>) -> Result<(), ReadError>
     ensures ok { OnOk result
@@ -72,6 +93,24 @@ fn push_number32(refusal: Fault, word: &[u8], made: &mut Vec<u8>) -> Result<(), 
     Ok(())
 }
 
+/// Appends the point in time that a word is. It is refused with the fault that is passed.
+fn push_time(refusal: Fault, word: &[u8], made: &mut Vec<u8>) -> Result<(), ReadError>
+    ensures ok { OnOk result
+        (with_octets held_time made.old.items (read_time word.now) ≡ Some made.new.items) }
+    ensures err { IfRefused result refusal (read_time word.now ≡ None) }
+    ensures given { RefusesWith result refusal }
+{
+    let seconds = time_of(refusal, word)?;
+    let parts = [
+        (seconds / 16777216) as u8,
+        (seconds / 65536 % 256) as u8,
+        (seconds / 256 % 256) as u8,
+        (seconds % 256) as u8,
+    ];
+    push_all(&parts, made)?;
+    Ok(())
+}
+
 /// Appends the octets of the address that a word is. It is refused with the fault that is passed.
 fn push_ipv4(
     alloc: Global,
@@ -85,6 +124,23 @@ fn push_ipv4(
     ensures given { RefusesWith result refusal }
 {
     let octets = ipv4_of(alloc, refusal, word)?;
+    push_all(octets.as_slice(), made)?;
+    Ok(())
+}
+
+/// Appends the octets of the IPv6 address that a word is. It is refused with the fault that is passed.
+fn push_ipv6(
+    alloc: Global,
+    refusal: Fault,
+    word: &[u8],
+    made: &mut Vec<u8>,
+) -> Result<(), ReadError>
+    ensures ok { OnOk result
+        (with_octets held_ipv6 made.old.items (read_ipv6 word.now) ≡ Some made.new.items) }
+    ensures err { IfRefused result refusal (read_ipv6 word.now ≡ None) }
+    ensures given { RefusesWith result refusal }
+{
+    let octets = ipv6_of(alloc, refusal, word)?;
     push_all(octets.as_slice(), made)?;
     Ok(())
 }
@@ -151,6 +207,43 @@ fn push_quoted(
     Ok(())
 }
 
+/// Appends the octets that a word is in hexadecimal digits, with their number before them. It is refused with the
+/// fault that is passed.
+fn push_counted16(
+    alloc: Global,
+    refusal: Fault,
+    word: &[u8],
+    made: &mut Vec<u8>,
+) -> Result<(), ReadError>
+    ensures ok { OnOk result
+        (with_octets held_counted16 made.old.items (read_counted word.now)
+        ≡ Some made.new.items) }
+    ensures err { IfRefused result refusal (read_counted word.now ≡ None) }
+    ensures given { RefusesWith result refusal }
+{
+    let octets = counted_of(alloc, refusal, word)?;
+    push_counted(octets.as_slice(), made)?;
+    Ok(())
+}
+
+/// Appends the octets that words in base64 are of, as one text. They are refused with the fault that is passed.
+fn push_base64(
+    alloc: Global,
+    refusal: Fault,
+    words: &[Word],
+    made: &mut Vec<u8>,
+) -> Result<(), ReadError>
+    ensures ok { OnOk result
+        (with_octets held_base64 made.old.items (read_base64 (together (words_of words.now)))
+        ≡ Some made.new.items) }
+    ensures err { IfRefused result refusal (read_base64 (together (words_of words.now)) ≡ None) }
+    ensures given { RefusesWith result refusal }
+{
+    let octets = base64_of(alloc, refusal, words)?;
+    push_all(octets.as_slice(), made)?;
+    Ok(())
+}
+
 /// Appends the octets of the character strings that words are.
 fn push_strings(alloc: Global, words: &[Word], made: &mut Vec<u8>) -> Result<(), ReadError>
     ensures ok { OnOk result
@@ -209,8 +302,20 @@ fn take_field<'w>(
             push_number32(refusal_of(word, Reason::Number), octets, made)?;
             Ok(after)
         }
+        TextForm::Time => {
+            push_time(refusal_of(word, Reason::Time), octets, made)?;
+            Ok(after)
+        }
+        TextForm::Rtype => {
+            push_rtype(refusal_of(word, Reason::Rtype), octets, made)?;
+            Ok(after)
+        }
         TextForm::Ipv4 => {
             push_ipv4(alloc, refusal_of(word, Reason::Ipv4), octets, made)?;
+            Ok(after)
+        }
+        TextForm::Ipv6 => {
+            push_ipv6(alloc, refusal_of(word, Reason::Ipv6), octets, made)?;
             Ok(after)
         }
         TextForm::Name => {
@@ -236,6 +341,15 @@ fn take_field<'w>(
         TextForm::Base16 => {
             push_hex_words(words, made)?;
             Ok(&[])
+        }
+        TextForm::Base64 => {
+            push_base64(alloc, refusal_of(word, Reason::Base64), words, made)?;
+            Ok(&[])
+        }
+        TextForm::CountedBase16 => {
+            let refusal = refusal_of(word, Reason::CountedBase16);
+            push_counted16(alloc, refusal, octets, made)?;
+            Ok(after)
         }
         TextForm::Generic => Err(refused(word.begin, Reason::OnlyGeneric)),
     }
@@ -363,7 +477,8 @@ fn read_generic(
 /// `Refused` with a fault and its offset, of which [`place_of`](crate::place_of) tells line and column: what
 /// [`split_words`](crate::split_words) refuses, wherever it is, or else the first from the left of these:
 /// - `MissingWord` and `ExtraWord` where there are fewer words than fields, or more;
-/// - `Number`, `Ipv4`, `Name`, `CharString`, `Tag`, `QuotedText`, `Base16` at a word that isn't such a field;
+/// - `Number`, `Time`, `Rtype`, `Ipv4`, `Ipv6`, `Name`, `CharString`, `Tag`, `QuotedText`, `Base16`, `Base64` or
+///   `CountedBase16` at a word that isn't such a field;
 /// - `OnlyGeneric` at a word of a field that has no form of its own ([`TextForm`](crate::TextForm));
 /// - `LongData` where the data has more than 65,535 octets;
 /// - after `\#` `OctetCount` at the number, where there are more octets or fewer, and `NotData` at `\#`, where they

@@ -1,7 +1,7 @@
 //! Octets in hexadecimal digits, and data of any type (RFC 3597, 5).
-ghost use Rattle.std.specs.Prelude.{◌≡◌, ◌<◌, ◌++◌, Ok, Err, Some, None, [], ◌∷◌, length, true, IfOk, OnOk, IfErr};
-ghost use Rattle.domain_rdata_text.specs.Hex.{hex_digit, hex_octet, hex_text, hex_in_words, is_hex, hex_value};
-ghost use Rattle.domain_rdata_text.specs.Hex.{hex_from, hex_words, is_mark_word, read_generic, generic_words, IsHalf};
+ghost use Rattle.std.specs.Prelude.{◌≡◌, ◌<◌, ◌≤◌, ◌++◌, Ok, Err, Some, None, [], ◌∷◌, length, true, IfOk, OnOk, IfErr};
+ghost use Rattle.domain_rdata_text.specs.Hex.{hex_digit, hex_octet, hex_text, hex_in_words, counted_text, is_hyphen, is_hex, hex_value};
+ghost use Rattle.domain_rdata_text.specs.Hex.{hex_from, hex_words, read_counted, is_mark_word, read_generic, generic_words, IsHalf};
 ghost use Rattle.domain_rdata_text.specs.Outcome.{IfFault, IfRefused, RefusesWith, AppendedTo};
 ghost use Rattle.domain_rdata_text.specs.declared.hex.Half.TheVariants.{Even};
 ghost use Rattle.domain_rdata_text.specs.Words.{lists, words_of, AppendedWords};
@@ -23,7 +23,7 @@ pub enum Half {
 }
 
 /// The digit of a number.
-fn digit_of(number: u8) -> u8
+pub(crate) fn digit_of(number: u8) -> u8
     requires { number < 16 }
     ensures { result ≡ hex_digit number }
 {
@@ -72,6 +72,21 @@ pub(crate) fn append_hex_words(
     Ok(())
 }
 
+/// Appends the word of octets: a hyphen where there is none.
+pub(crate) fn append_counted_word(
+    alloc: Global,
+    octets: &[u8],
+    words: &mut Vec<Vec<u8>>,
+) -> Result<(), AllocError>
+    ensures { OnOk result
+        (AppendedWords words.old.items (counted_text octets.now ∷ []) words.new.items) }
+{
+    if octets.is_empty() {
+        return append_copy(alloc, &[b'-'], words);
+    }
+    append_hex_words(alloc, octets, words)
+}
+
 /// The words of data of any type: `\#`, how many octets, and these in digits.
 pub(crate) fn generic_words_of(alloc: Global, octets: &[u8]) -> Result<Vec<Vec<u8>>, AllocError>
     ensures { IfOk result (λ made. lists made.items ≡ generic_words octets.now) }
@@ -84,14 +99,14 @@ pub(crate) fn generic_words_of(alloc: Global, octets: &[u8]) -> Result<Vec<Vec<u
 }
 
 /// Whether it is a hexadecimal digit.
-fn is_hexadecimal(octet: u8) -> bool
+pub(crate) fn is_hexadecimal(octet: u8) -> bool
     ensures { result ≡ is_hex octet }
 {
     is_decimal(octet) || (b'a' <= octet && octet <= b'f') || (b'A' <= octet && octet <= b'F')
 }
 
 /// The number of a digit.
-fn value_of_digit(octet: u8) -> u8
+pub(crate) fn value_of_digit(octet: u8) -> u8
     requires { is_hex octet ≡ true }
     ensures value { result ≡ hex_value octet }
     ensures small { result < 16 }
@@ -152,6 +167,37 @@ pub(crate) fn push_hex_words(words: &[Word], made: &mut Vec<u8>) -> Result<(), R
         rest = after;
     }
     Ok(())
+}
+
+/// Whether the word is a hyphen.
+fn is_hyphen_word(word: &[u8]) -> bool
+    ensures { result ≡ is_hyphen word.now }
+{
+    match word {
+        [octet] => *octet == b'-',
+        _ => false,
+    }
+}
+
+/// The octets, at most 255, that a word is: a hyphen, or digits. It is refused with the fault that is passed.
+pub(crate) fn counted_of(alloc: Global, refusal: Fault, word: &[u8]) -> Result<Vec<u8>, ReadError>
+    ensures ok { IfOk result (λ made. read_counted word.now ≡ Some made.items) }
+    ensures small { IfOk result (λ made. length made.items ≤ 255) }
+    ensures err { IfRefused result refusal (read_counted word.now ≡ None) }
+    ensures given { RefusesWith result refusal }
+{
+    if word.is_empty() {
+        return Err(ReadError::Refused(refusal));
+    }
+    let mut octets = Vec::new(alloc);
+    if is_hyphen_word(word) {
+        return Ok(octets);
+    }
+    push_octets(refusal, word, &mut octets)?;
+    if octets.len() > 255 {
+        return Err(ReadError::Refused(refusal));
+    }
+    Ok(octets)
 }
 
 /// Whether the word says that data is octets.

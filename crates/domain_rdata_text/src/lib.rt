@@ -5,17 +5,21 @@
 #![tactic(auto)]
 
 mod address;
+mod base64_text;
 pub mod error;
 pub mod form;
 pub mod from_text;
 mod hex;
+mod ipv6;
 pub mod laws;
 mod name;
 mod number;
 pub mod place;
 mod push;
+mod rtype;
 mod string;
 mod symbols;
+mod time;
 pub mod to_text;
 pub mod value;
 pub mod words;

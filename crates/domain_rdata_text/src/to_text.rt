@@ -7,10 +7,13 @@ ghost use Rattle.domain_rdata_text.specs.Values.{Val, val_of, vals_of, vals_octe
 ghost use Rattle.domain_rdata_text.specs.Words.{lists, AppendedWords};
 
 use crate::address::append_ipv4_word;
-use crate::hex::{append_hex_words, generic_words_of};
+use crate::base64_text::append_base64_words;
+use crate::hex::{append_counted_word, append_hex_words, generic_words_of};
+use crate::ipv6::append_ipv6_word;
 use crate::name::append_name_word;
 use crate::number::append_number_word;
 use crate::push::{append_all, append_copy};
+use crate::rtype::append_type_word;
 use crate::string::{append_string_word, append_string_words};
 use crate::value::{PlainData, Value, plain_data};
 use crate::words::append_joined;
@@ -26,13 +29,18 @@ fn append_words(alloc: Global, value: &Value, words: &mut Vec<Vec<u8>>) -> Resul
         Value::Number8(number) => append_number_word(alloc, u64::from(*number), words),
         Value::Number16(number) => append_number_word(alloc, u64::from(*number), words),
         Value::Number32(number) => append_number_word(alloc, u64::from(*number), words),
+        Value::Time(seconds) => append_number_word(alloc, u64::from(*seconds), words),
+        Value::Rtype(number) => append_type_word(alloc, *number, words),
         Value::Ipv4(octets) => append_ipv4_word(alloc, octets.as_slice(), words),
+        Value::Ipv6(octets) => append_ipv6_word(alloc, octets.as_slice(), words),
         Value::Name(labels) => append_name_word(alloc, labels.as_slice(), words),
         Value::CharString(string) => append_string_word(alloc, string.as_slice(), words),
         Value::CharStrings(strings) => append_string_words(alloc, strings.as_slice(), words),
         Value::Tag(tag) => append_copy(alloc, tag.as_slice(), words),
         Value::QuotedText(text) => append_string_word(alloc, text.as_slice(), words),
         Value::Base16(octets) => append_hex_words(alloc, octets.as_slice(), words),
+        Value::Base64(octets) => append_base64_words(alloc, octets.as_slice(), words),
+        Value::CountedBase16(octets) => append_counted_word(alloc, octets.as_slice(), words),
         Value::Generic(_) => Ok(()),
     }
 }
@@ -57,11 +65,16 @@ fn is_written(value: &Value) -> bool
     match value {
         Value::CharStrings(strings) => has_some_list(strings.as_slice()),
         Value::Base16(octets) => has_some(octets.as_slice()),
+        Value::Base64(octets) => has_some(octets.as_slice()),
         Value::Generic(_) => false,
         Value::Number8(_) => true,
         Value::Number16(_) => true,
         Value::Number32(_) => true,
+        Value::Time(_) => true,
+        Value::Rtype(_) => true,
         Value::Ipv4(_) => true,
+        Value::Ipv6(_) => true,
+        Value::CountedBase16(_) => true,
         Value::Name(_) => true,
         Value::CharString(_) => true,
         Value::Tag(_) => true,
@@ -96,11 +109,16 @@ fn takes_all_words(value: &Value) -> bool
     match value {
         Value::CharStrings(_) => true,
         Value::Base16(_) => true,
+        Value::Base64(_) => true,
         Value::Generic(_) => false,
         Value::Number8(_) => false,
         Value::Number16(_) => false,
         Value::Number32(_) => false,
+        Value::Time(_) => false,
+        Value::Rtype(_) => false,
         Value::Ipv4(_) => false,
+        Value::Ipv6(_) => false,
+        Value::CountedBase16(_) => false,
         Value::Name(_) => false,
         Value::CharString(_) => false,
         Value::Tag(_) => false,

@@ -6,7 +6,7 @@ ghost use Rattle.domain_label.specs.Wire.{wire, Root};
 ghost use Rattle.domain_rdata_text.specs.Laws.{AreOctets};
 ghost use Rattle.domain_rdata_text.specs.Outcome.{AppendedTo};
 ghost use Rattle.domain_rdata_text.specs.Values.Val.{generic as held_generic};
-ghost use Rattle.domain_rdata_text.specs.Values.{val_of, vals_of, val_in, number8_in, number16_in, number32_in, ipv4_in, string_in};
+ghost use Rattle.domain_rdata_text.specs.Values.{val_of, vals_of, val_in, number8_in, number16_in, rtype_in, number32_in, time_in, ipv4_in, ipv6_in, string_in, counted16_in};
 ghost use Rattle.domain_rdata_text.specs.Values.{strings_in, strings_or, is_tag, tag_in, counted, val_octets, vals_octets, ValueAt, HasValues};
 ghost use Rattle.domain_rdata_text.specs.Words.{lists};
 
@@ -26,8 +26,14 @@ pub enum Value {
     Number16(u16),
     /// A number of 32 bits.
     Number32(u32),
+    /// A point in time, by the seconds since 1970 began.
+    Time(u32),
+    /// A type of records.
+    Rtype(u16),
     /// The octets of an IPv4 address.
     Ipv4(Vec<u8>),
+    /// The octets of an IPv6 address.
+    Ipv6(Vec<u8>),
     /// A name, by its labels before the root.
     Name(Vec<Vec<u8>>),
     /// The octets of a character string.
@@ -40,6 +46,10 @@ pub enum Value {
     QuotedText(Vec<u8>),
     /// Octets that are written in hexadecimal digits.
     Base16(Vec<u8>),
+    /// Octets that are written in base64.
+    Base64(Vec<u8>),
+    /// Octets behind their number that are written in hexadecimal digits.
+    CountedBase16(Vec<u8>),
     /// The octets of a field that has no text of its own.
     Generic(Vec<u8>),
 }
@@ -72,6 +82,16 @@ fn number16_value(alloc: Global, octets: &[u8]) -> Result<Value, AllocError>
     }
 }
 
+/// A type of records.
+fn rtype_value(alloc: Global, octets: &[u8]) -> Result<Value, AllocError>
+    ensures { IfOk result (λ made. val_of made ≡ rtype_in octets.now) }
+{
+    match octets {
+        [high, low] => Ok(Value::Rtype(u16::from(*high) * 256 + u16::from(*low))),
+        _ => generic_value(alloc, octets),
+    }
+}
+
 /// A number of 32 bits.
 fn number32_value(alloc: Global, octets: &[u8]) -> Result<Value, AllocError>
     ensures { IfOk result (λ made. val_of made ≡ number32_in octets.now) }
@@ -88,6 +108,22 @@ fn number32_value(alloc: Global, octets: &[u8]) -> Result<Value, AllocError>
     }
 }
 
+/// A point in time.
+fn time_value(alloc: Global, octets: &[u8]) -> Result<Value, AllocError>
+    ensures { IfOk result (λ made. val_of made ≡ time_in octets.now) }
+{
+    match octets {
+        [first, second, third, fourth] => {
+            let seconds = u32::from(*first) * 16777216
+                + u32::from(*second) * 65536
+                + u32::from(*third) * 256
+                + u32::from(*fourth);
+            Ok(Value::Time(seconds))
+        }
+        _ => generic_value(alloc, octets),
+    }
+}
+
 /// An IPv4 address.
 fn ipv4_value(alloc: Global, octets: &[u8]) -> Result<Value, AllocError>
     ensures { IfOk result (λ made. val_of made ≡ ipv4_in octets.now) }
@@ -95,6 +131,17 @@ fn ipv4_value(alloc: Global, octets: &[u8]) -> Result<Value, AllocError>
     if octets.len() == 4 {
         let copy = copy_of(alloc, octets)?;
         return Ok(Value::Ipv4(copy));
+    }
+    generic_value(alloc, octets)
+}
+
+/// An IPv6 address.
+fn ipv6_value(alloc: Global, octets: &[u8]) -> Result<Value, AllocError>
+    ensures { IfOk result (λ made. val_of made ≡ ipv6_in octets.now) }
+{
+    if octets.len() == 16 {
+        let copy = copy_of(alloc, octets)?;
+        return Ok(Value::Ipv6(copy));
     }
     generic_value(alloc, octets)
 }
@@ -109,6 +156,20 @@ fn string_value(alloc: Global, octets: &[u8]) -> Result<Value, AllocError>
     if string.len() == usize::from(*len) {
         let copy = copy_of(alloc, string)?;
         return Ok(Value::CharString(copy));
+    }
+    generic_value(alloc, octets)
+}
+
+/// Octets behind their number.
+fn counted16_value(alloc: Global, octets: &[u8]) -> Result<Value, AllocError>
+    ensures { IfOk result (λ made. val_of made ≡ counted16_in octets.now) }
+{
+    let [len, others @ ..] = octets else {
+        return generic_value(alloc, octets);
+    };
+    if others.len() == usize::from(*len) {
+        let copy = copy_of(alloc, others)?;
+        return Ok(Value::CountedBase16(copy));
     }
     generic_value(alloc, octets)
 }
@@ -213,7 +274,10 @@ fn octets_value(alloc: Global, form: TextForm, octets: &[u8]) -> Result<Value, A
         TextForm::Number8 => number8_value(alloc, octets),
         TextForm::Number16 => number16_value(alloc, octets),
         TextForm::Number32 => number32_value(alloc, octets),
+        TextForm::Time => time_value(alloc, octets),
+        TextForm::Rtype => rtype_value(alloc, octets),
         TextForm::Ipv4 => ipv4_value(alloc, octets),
+        TextForm::Ipv6 => ipv6_value(alloc, octets),
         TextForm::Name => generic_value(alloc, octets),
         TextForm::CharString => string_value(alloc, octets),
         TextForm::CharStrings => strings_value(alloc, octets),
@@ -226,6 +290,11 @@ fn octets_value(alloc: Global, form: TextForm, octets: &[u8]) -> Result<Value, A
             let copy = copy_of(alloc, octets)?;
             Ok(Value::Base16(copy))
         }
+        TextForm::Base64 => {
+            let copy = copy_of(alloc, octets)?;
+            Ok(Value::Base64(copy))
+        }
+        TextForm::CountedBase16 => counted16_value(alloc, octets),
         TextForm::Generic => generic_value(alloc, octets),
     }
 }

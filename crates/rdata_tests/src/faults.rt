@@ -12,7 +12,10 @@ fn is_refused(alloc: Global, of: (u16, u16), text: &[u8], fault: Fault) -> bool 
 }
 
 /// A type, a class, a text, and the offset and the reason of its first fault.
-const ROWS: [(u16, u16, &[u8], usize, Reason); 76] = [
+type Row = (u16, u16, &'static [u8], usize, Reason);
+
+/// Of each kind of field but those below.
+const ROWS: [Row; 76] = [
     (1, 1, b"", 0, Reason::MissingWord),
     (15, 1, b"10", 2, Reason::MissingWord),
     (15, 1, b"10 ; mail.", 10, Reason::MissingWord),
@@ -109,9 +112,123 @@ const ROWS: [(u16, u16, &[u8], usize, Reason); 76] = [
     (43, 1, b"1 256 x zz", 2, Reason::Number),
 ];
 
+/// IPv6 addresses (RFC 4291, 2.2).
+const ADDRESSES: [Row; 19] = [
+    (28, 1, b"1:2:3:4:5:6:7", 0, Reason::Ipv6),
+    (28, 1, b"1:2:3:4:5:6:7:8:9", 0, Reason::Ipv6),
+    (28, 1, b"1::2::3", 0, Reason::Ipv6),
+    (28, 1, b":::", 0, Reason::Ipv6),
+    (28, 1, b"1:2:3:4:5:6:7:8::", 0, Reason::Ipv6),
+    (28, 1, b"::1:2:3:4:5:6:7:8", 0, Reason::Ipv6),
+    (28, 1, b"12345::", 0, Reason::Ipv6),
+    (28, 1, b"1:2:3:4:5:6:7:g", 0, Reason::Ipv6),
+    (28, 1, b"1:2:3:4:5:6:7:", 0, Reason::Ipv6),
+    (28, 1, b"10.0.0.1", 0, Reason::Ipv6),
+    (28, 1, b":1:2:3:4:5:6:7:8", 0, Reason::Ipv6),
+    (28, 1, b"1.2.3.4::", 0, Reason::Ipv6),
+    (28, 1, b"::1.2.3", 0, Reason::Ipv6),
+    (28, 1, b"::1.2.3.4:5", 0, Reason::Ipv6),
+    (28, 1, b"1:2:3:4:5:6:7:1.2.3.4", 0, Reason::Ipv6),
+    (28, 1, b"1:2:3:4:5:6:7:8:", 0, Reason::Ipv6),
+    (28, 1, b"::256.1.1.1", 0, Reason::Ipv6),
+    (28, 1, b":", 0, Reason::Ipv6),
+    (28, 1, b"1:2:3:4::5:6:7:8", 0, Reason::Ipv6),
+];
+
+/// Octets in base64, and salts (RFC 4648, 3.2 and 3.5; RFC 5155, 3.3).
+const ENCODED: [Row; 22] = [
+    (61, 1, b"Zg", 0, Reason::Base64),
+    (61, 1, b"Zg=", 0, Reason::Base64),
+    (61, 1, b" Zh==", 1, Reason::Base64),
+    (61, 1, b"Zm9v=", 0, Reason::Base64),
+    (61, 1, b"Zg===", 0, Reason::Base64),
+    (61, 1, b"Z===", 0, Reason::Base64),
+    (61, 1, b"=", 0, Reason::Base64),
+    (61, 1, b"Zm9 v!mFy", 0, Reason::Base64),
+    (61, 1, b"Zg==Zg==", 0, Reason::Base64),
+    (61, 1, b"Zg== Zg==", 0, Reason::Base64),
+    (61, 1, b"_-8=", 0, Reason::Base64),
+    (61, 1, b"\"Zm9v\"", 0, Reason::Base64),
+    (48, 1, b"256 3 5", 7, Reason::MissingWord),
+    (48, 1, b"256 3 5 AQP", 8, Reason::Base64),
+    (48, 1, b"65536 3 5 Zm9v", 0, Reason::Number),
+    (51, 1, b"1 0 12", 6, Reason::MissingWord),
+    (51, 1, b"1 0 12 aabbccd", 7, Reason::CountedBase16),
+    (51, 1, b"1 0 12 --", 7, Reason::CountedBase16),
+    (51, 1, b"1 0 12 aa bb", 10, Reason::ExtraWord),
+    (51, 1, b"1 0 12 -aa", 7, Reason::CountedBase16),
+    (51, 1, b"1 0 12 \"aa\"", 7, Reason::CountedBase16),
+    (
+        51,
+        1,
+        b"1 0 12 00000000000000000000000000000000000000000000000000000000000000000000000000000000000000000000000000000000000000000000000000000000000000000000000000000000000000000000000000000000000000000000000000000000000000000000000000000000000000000000000000000000000000000000000000000000000000000000000000000000000000000000000000000000000000000000000000000000000000000000000000000000000000000000000000000000000000000000000000000000000000000000000000000000000000000000000000000000000000000000000000000000000000000000000000000000",
+        7,
+        Reason::CountedBase16,
+    ),
+];
+
+/// Types and times of signatures (RFC 3597, 5; RFC 4034, 3.2).
+const SIGNATURES: [Row; 28] = [
+    (46, 1, b"TYPE65536 5 3 86400", 0, Reason::Rtype),
+    (46, 1, b"TYPE 5 3 86400", 0, Reason::Rtype),
+    (46, 1, b"TYPEA 5 3 86400", 0, Reason::Rtype),
+    (46, 1, b"1 5 3 86400", 0, Reason::Rtype),
+    (46, 1, b"AAAAA 5 3 86400", 0, Reason::Rtype),
+    (46, 1, b"CLASS1 5 3 86400", 0, Reason::Rtype),
+    (46, 1, b"\\A 5 3 86400", 0, Reason::Rtype),
+    (46, 1, b"TYPE-1 5 3 86400", 0, Reason::Rtype),
+    (46, 1, b"A 5 3 86400 20030230173103", 12, Reason::Time),
+    (46, 1, b"A 5 3 86400 20010229000000", 12, Reason::Time),
+    (46, 1, b"A 5 3 86400 21000229000000", 12, Reason::Time),
+    (46, 1, b"A 5 3 86400 19691231235959", 12, Reason::Time),
+    (46, 1, b"A 5 3 86400 21060207062816", 12, Reason::Time),
+    (46, 1, b"A 5 3 86400 20030322240000", 12, Reason::Time),
+    (46, 1, b"A 5 3 86400 20030322236000", 12, Reason::Time),
+    (46, 1, b"A 5 3 86400 20030322235960", 12, Reason::Time),
+    (46, 1, b"A 5 3 86400 20031301000000", 12, Reason::Time),
+    (46, 1, b"A 5 3 86400 20030001000000", 12, Reason::Time),
+    (46, 1, b"A 5 3 86400 20030100000000", 12, Reason::Time),
+    (46, 1, b"A 5 3 86400 20030431000000", 12, Reason::Time),
+    (46, 1, b"A 5 3 86400 00000000000000", 12, Reason::Time),
+    (46, 1, b"A 5 3 86400 99991231235959", 12, Reason::Time),
+    (46, 1, b"A 5 3 86400 2003032217310", 12, Reason::Time),
+    (46, 1, b"A 5 3 86400 200303221731030", 12, Reason::Time),
+    (46, 1, b"A 5 3 86400 4294967296", 12, Reason::Time),
+    (46, 1, b"A 5 3 86400 2003-03-221731", 12, Reason::Time),
+    (46, 1, b"A 5 3 86400 now", 12, Reason::Time),
+    (
+        46,
+        1,
+        b"A 5 3 86400 20030322173103",
+        26,
+        Reason::MissingWord,
+    ),
+];
+
 #[test]
 fn first_faults(rt: HostRuntime) {
     for (rtype, class, text, at, reason) in ROWS {
+        assert!(rt; is_refused(rt.alloc(), (rtype, class), text, Fault { at, reason }));
+    }
+}
+
+#[test]
+fn faults_of_addresses(rt: HostRuntime) {
+    for (rtype, class, text, at, reason) in ADDRESSES {
+        assert!(rt; is_refused(rt.alloc(), (rtype, class), text, Fault { at, reason }));
+    }
+}
+
+#[test]
+fn faults_of_encoded_octets(rt: HostRuntime) {
+    for (rtype, class, text, at, reason) in ENCODED {
+        assert!(rt; is_refused(rt.alloc(), (rtype, class), text, Fault { at, reason }));
+    }
+}
+
+#[test]
+fn faults_of_signatures(rt: HostRuntime) {
+    for (rtype, class, text, at, reason) in SIGNATURES {
         assert!(rt; is_refused(rt.alloc(), (rtype, class), text, Fault { at, reason }));
     }
 }

@@ -4,7 +4,7 @@ use Rattle.domain_rdata_text.specs.Words.{lists}
 use Rattle.domain_rdata_text.proofs.address.pieces_of.Given as goal
 
 abbrev pub invariant-octet : goal.invariant-octet
-invariant-octet l = pieces_from [] [] l.fn.word ≡ pieces_from (lists l.pieces.items) l.piece.items l.rest
+invariant-octet l = pieces_from l.fn.separator [] [] l.fn.word ≡ pieces_from l.fn.separator (lists l.pieces.items) l.piece.items l.rest
 
 abbrev pub decreases-octet : goal.decreases-octet
 decreases-octet l = length l.rest
