@@ -1,7 +1,8 @@
-"""A second reader of zones, written from RFC 1034 (4.2.1, 4.3.2), 2181 (5, 6, 10.1), 2308, 4034 (6.1), 4035 (2.4, 2.5,
-3.1.4.1), 4592, 5155 (7.2.8), 6672, 6895 and 8482. It keeps a zone as a tree of labels and goes down from the apex."""
+"""A second reader of zones, written from RFC 1034 (4.2.1, 4.3.2), 1035 (3.3.13), 2181 (5, 6, 10.1), 2308 (3), 4034
+(6.1), 4035 (2.4, 2.5, 3.1.4.1), 4592, 5155 (7.2.8), 6672, 6895, 8482 (4.1) and 9471 (3). It keeps a zone as a tree of
+labels and goes down from the apex."""
 
-NS, CNAME, SOA, KEY, DNAME, OPT, DS, RRSIG, NSEC, NSEC3, ANY = 2, 5, 6, 25, 39, 41, 43, 46, 47, 50, 255
+A, NS, CNAME, SOA, KEY, AAAA, DNAME, OPT, DS, RRSIG, NSEC, NSEC3, ANY = 1, 2, 5, 6, 25, 28, 39, 41, 43, 46, 47, 50, 255
 MOST_OCTETS, MOST_LABEL = 255, 63
 
 
@@ -29,6 +30,13 @@ def name_in(data):
         labels.append(data[at + 1 : end].decode("latin-1"))
         at = end
     return labels if at + 1 == len(data) <= MOST_OCTETS else None
+
+
+def minimum_in(data):
+    """The MINIMUM of SOA data, two names and five numbers, or None (RFC 1035, 3.3.13)."""
+    names, numbers = data[:-20], data[-20:]
+    ends = [it for it in range(len(names) + 1) if None not in (name_in(names[:it]), name_in(names[it:]))]
+    return int.from_bytes(numbers[16:], "big") if ends else None
 
 
 def is_data_type(rtype):
@@ -127,40 +135,58 @@ class Zone:
         for label in sorted(node.below, key=lambda it: it.encode("latin-1")):
             yield from self.sorted_below(node.below[label])
 
-    def owned(self, name):
+    def owned(self, labels):
         """The RRsets of a name by type, at and below cuts, too."""
-        node, path = self.top, self.inside(labels_of(name))
+        node, path = self.top, self.inside(labels)
         for label in path or []:
             node = node.below.get(label, Node())
         return {} if path is None else node.sets
 
     def answer(self, name, rtype):
-        """RFC 1034, 4.3.2, with RFC 4592 and 6672, for one step."""
+        """RFC 1034, 4.3.2, with RFC 4592 and 6672, for one step: the answer, and the sections of a response."""
         labels = labels_of(name)
         path = self.inside(labels)
         if path is None:
-            return "out of zone"
+            return "out of zone", [], [], []
         node = self.top
         for depth, label in enumerate(path):
             if label not in node.below:
-                return self.below(node, labels[: len(path) - depth], rtype)
+                return self.below(node, labels[: len(path) - depth], name, rtype)
             node = node.below[label]
             is_asked = depth + 1 == len(path)
             if NS in node.sets and not (is_asked and rtype == DS):
-                return f"referral {node.sets[NS].owner}"
-        return found(node, rtype)
+                servers = node.sets[NS]
+                return f"referral {servers.owner}", [], [shown(NS, servers)], self.glue(servers)
+        answer, section = found(node, rtype, None)
+        return answer, section, self.denial(answer), []
 
-    def below(self, node, front, rtype):
+    def below(self, node, front, name, rtype):
         """The answer for a name that doesn't exist: its closest encloser, and its labels before those of that name."""
         if DNAME in node.sets:
             dname = node.sets[DNAME]
             made = front + name_in(min(dname.spellings))
+            section = [shown(DNAME, dname)]
             if octets_of(made) > MOST_OCTETS:
-                return f"too long {dname.owner}"
-            return f"redirect {dname.owner} {text_of(made)}"
+                return f"too long {dname.owner}", section, [], []
+            section.append(f"{name}/{CNAME}/{dname.ttl}/{text_of(made)}")
+            return f"redirect {dname.owner} {text_of(made)}", section, [], []
         if "*" in node.below:
-            return f"synthesized {found(node.below['*'], rtype)}"
-        return "name error"
+            answer, section = found(node.below["*"], rtype, name)
+            return f"synthesized {answer}", section, self.denial(answer), []
+        return "name error", [], self.denial("name error"), []
+
+    def denial(self, answer):
+        """The SOA in the authority section of a negative response, with the lower TTL (RFC 2308, 3)."""
+        soa = self.top.sets[SOA]
+        least = minimum_in(min(soa.spellings))
+        ttl = soa.ttl if least is None else min(soa.ttl, least)
+        return [shown(SOA, soa, ttl=ttl)] if answer in ("no data", "name error") else []
+
+    def glue(self, servers):
+        """The addresses of name servers that the zone has (RFC 1034, 4.3.2, step 3b; RFC 9471, 3)."""
+        names = [name_in(it) for it in sorted(servers.spellings)]
+        owned = [self.owned(it) for it in names if it is not None]
+        return [shown(rtype, sets[rtype]) for sets in owned for rtype in (A, AAAA) if rtype in sets]
 
 
 def header_of(answer):
@@ -171,15 +197,22 @@ def header_of(answer):
     return f"aa={int(not answer.startswith(('referral', 'out of zone')))} rcode={rcode}"
 
 
-def found(node, rtype):
-    """What is found at a name that exists."""
-    if rtype == ANY:
-        return "any types" if node.sets else "no data"
-    if rtype in node.sets:
-        return f"records {node.sets[rtype].owner} {rtype}"
-    if CNAME in node.sets:
-        return f"alias {node.sets[CNAME].owner}"
-    return "no data"
+def shown(rtype, rrset, owner=None, ttl=None):
+    """An RRset of a section."""
+    return f"{owner or rrset.owner}/{rtype}/{rrset.ttl if ttl is None else ttl}/{len(rrset.spellings)}"
+
+
+def found(node, rtype, asked):
+    """What is found at a name that exists, and the answer section. Records that are synthesized have the owner that was
+    asked for (RFC 4592, 3.3.1). Of all types the lowest is chosen (RFC 8482, 4.1)."""
+    sets = node.sets
+    if rtype == ANY and sets:
+        return "any types", [shown(min(sets), sets[min(sets)], asked)]
+    if rtype in sets:
+        return f"records {sets[rtype].owner} {rtype}", [shown(rtype, sets[rtype], asked)]
+    if CNAME in sets:
+        return f"alias {sets[CNAME].owner}", [shown(CNAME, sets[CNAME], asked)]
+    return "no data", []
 
 
 def answers(apex, records, questions):
@@ -191,6 +224,8 @@ def answers(apex, records, questions):
     for rtype, it in zone.rrsets():
         said += f" {it.owner}/{rtype}/{it.ttl}/{len(it.spellings)}"
     for name, rtype in questions:
-        owned, answer = zone.owned(name), zone.answer(name, rtype)
+        owned = zone.owned(labels_of(name))
+        answer, *sections = zone.answer(name, rtype)
         said += f"; sets={len(owned)} has={int(rtype in owned)} {header_of(answer)} {answer}"
+        said += "".join(f" {word}={','.join(it) or '-'}" for word, it in zip(("an", "ns", "ar"), sections))
     return said

@@ -1,7 +1,7 @@
 #!/usr/bin/env python3
 """Writes stdin and stdout of the table of zones, always the same: rows with their answers beside them, from the RFCs,
-and zones that are drawn from a fixed seed. second.py answers all, and has to answer the first as they say here. The
-last line is how many rows and questions there are."""
+and zones that are drawn from a fixed seed. second.py answers all, and has to answer the first as they say here; where
+sections are beside a question, these too. The last line is how many rows and questions there are."""
 
 import pathlib
 import random
@@ -11,10 +11,16 @@ sys.dont_write_bytecode = True
 import second
 
 HERE = pathlib.Path(__file__).resolve().parent
-A, NS, CNAME, SOA, PTR, HINFO, MX, TXT, KEY = 1, 2, 5, 6, 12, 13, 15, 16, 25
+A, NS, CNAME, SOA, PTR, HINFO, MX, TXT, KEY, AAAA = 1, 2, 5, 6, 12, 13, 15, 16, 25, 28
 SRV, DNAME, OPT, DS, RRSIG, NSEC, NSEC3, ANY = 33, 39, 41, 43, 46, 47, 50, 255
 SOA_DATA = bytes(5) + b"\x01" + bytes(16)
+DENIAL = "an=- ns=example./6/0/1 ar=-"
 DIGITS = 6 * "123456789-"
+# RFC 1034, 6.2.6 and 6.2.7: the name servers of two zones, and what the root zone has of their addresses.
+ROOT_GLUE = {
+    "MIL.": "an=- ns=MIL./2/3600/2 ar=A.ISI.EDU./1/3600/1,SRI-NIC.ARPA./1/3600/2",
+    "EDU.": "an=- ns=EDU./2/3600/2 ar=C.ISI.EDU./1/3600/1,SRI-NIC.ARPA./1/3600/2",
+}
 LONG = ".".join([letter * 63 for letter in "abc"]) + "."
 
 
@@ -66,13 +72,13 @@ TOLD = [
         "example.",
         WILDCARDS,
         [
-            ("host3.example.", MX, "synthesized records *.example. 15"),
-            ("host3.example.", A, "synthesized no data"),
-            ("foo.bar.example.", TXT, "synthesized records *.example. 16"),
-            ("host1.example.", MX, "no data"),
+            ("host3.example.", MX, "synthesized records *.example. 15", "an=host3.example./15/3600/1 ns=- ar=-"),
+            ("host3.example.", A, "synthesized no data", DENIAL),
+            ("foo.bar.example.", TXT, "synthesized records *.example. 16", "an=foo.bar.example./16/3600/1 ns=- ar=-"),
+            ("host1.example.", MX, "no data", DENIAL),
             ("sub.*.example.", MX, "no data"),
-            ("_telnet._tcp.host1.example.", SRV, "name error"),
-            ("host.subdel.example.", A, "referral subdel.example."),
+            ("_telnet._tcp.host1.example.", SRV, "name error", DENIAL),
+            ("host.subdel.example.", A, "referral subdel.example.", "an=- ns=subdel.example./2/3600/2 ar=-"),
             ("ghost.*.example.", MX, "name error"),
         ],
     ),
@@ -119,15 +125,15 @@ TOLD = [
             ("C.ISI.EDU.", A, address("10.0.0.52")),
         ],
         [
-            ("SRI-NIC.ARPA.", A, "records SRI-NIC.ARPA. 1"),
-            ("SRI-NIC.ARPA.", ANY, "any types"),
+            ("SRI-NIC.ARPA.", A, "records SRI-NIC.ARPA. 1", "an=SRI-NIC.ARPA./1/3600/2 ns=- ar=-"),
+            ("SRI-NIC.ARPA.", ANY, "any types", "an=SRI-NIC.ARPA./1/3600/2 ns=- ar=-"),
             ("SRI-NIC.ARPA.", MX, "records SRI-NIC.ARPA. 15"),
-            ("SRI-NIC.ARPA.", NS, "no data"),
-            ("SIR-NIC.ARPA.", A, "name error"),
-            ("BRL.MIL.", A, "referral MIL."),
-            ("USC-ISIC.ARPA.", A, "alias USC-ISIC.ARPA."),
+            ("SRI-NIC.ARPA.", NS, "no data", "an=- ns=./6/0/1 ar=-"),
+            ("SIR-NIC.ARPA.", A, "name error", "an=- ns=./6/0/1 ar=-"),
+            ("BRL.MIL.", A, "referral MIL.", ROOT_GLUE["MIL."]),
+            ("USC-ISIC.ARPA.", A, "alias USC-ISIC.ARPA.", "an=USC-ISIC.ARPA./5/3600/1 ns=- ar=-"),
             ("USC-ISIC.ARPA.", CNAME, "records USC-ISIC.ARPA. 5"),
-            ("C.ISI.EDU.", A, "referral EDU."),
+            ("C.ISI.EDU.", A, "referral EDU.", ROOT_GLUE["EDU."]),
             (".", NS, "records . 2"),
         ],
     ),
@@ -145,7 +151,7 @@ TOLD = [
             ("d.example.", TXT, "records d.example. 16"),
             ("d.example.", A, "no data"),
             ("A.D.example.", DNAME, "redirect d.example. A.example.net."),
-            ("a.d.example.", TXT, "redirect d.example. a.example.net."),
+            ("a.d.example.", TXT, "redirect d.example. a.example.net.", "an=d.example./39/3600/1,a.d.example./5/3600/a.example.net. ns=- ar=-"),
             ("a.www.example.", TXT, "name error"),
         ],
     ),
@@ -155,7 +161,7 @@ TOLD = [
         [("x.", DNAME, name(LONG))],
         [
             (DIGITS + "1.x.", A, "redirect x. " + DIGITS + "1." + LONG),
-            (DIGITS + "12.x.", A, "too long x."),
+            (DIGITS + "12.x.", A, "too long x.", "an=x./39/3600/1 ns=- ar=-"),
         ],
     ),
     (
@@ -251,7 +257,7 @@ TOLD = [
 # What the drawn zones are made of.
 LABELS = ["a", "b", "c", "*", "A"]
 APEXES = [".", "z.", "Z.y."]
-TYPES = [A] * 6 + [TXT] * 4 + [NS] * 2 + [CNAME, DNAME, DNAME, DS, NSEC, RRSIG, KEY, 65534]
+TYPES = [A] * 6 + [AAAA] * 3 + [TXT] * 4 + [NS] * 4 + [CNAME, DNAME, DNAME, DS, NSEC, RRSIG, KEY, 65534]
 FOREIGN = [0, OPT, NSEC3, 128, ANY, 65535]
 ASKED = [A, A, A, TXT, TXT, NS, CNAME, DNAME, DS, SOA, NSEC, ANY, 65535]
 ZONES, RECORDS, QUESTIONS, SEED = 2000, 7, 6, 4592
@@ -269,28 +275,56 @@ def drawn_name(draw, apex, known):
     return second.text_of(front[-4:] + top) if front or top else "."
 
 
-def drawn_data(draw, rtype):
+def drawn_soa(draw):
+    """SOA data, at times an octet short or long, or with a bad name, and its TTL."""
+    names = draw.choice([b"\0\0", name("ns.") + name("a.z."), name(LONG) + b"\0", b"\0", b"\0\0\0", b"\x40\0", b"\1a\0"])
+    minimum = draw.choice([0, 59, 3600, 3601, 2**32 - 1])
+    data = names + bytes(16) + minimum.to_bytes(4, "big")
+    return draw.choice([0, 60, 3600, 2**32 - 1]), draw.choice([data] * 8 + [data[1:], data + b"\0", data[:-20], b""])
+
+
+def drawn_data(draw, rtype, apex, known):
+    if rtype == NS and draw.random() < 0.6:
+        server = drawn_name(draw, apex, known)
+        return name(draw.choice([server, server, server.upper()])) + b"\0" * (draw.random() < 0.02)
     if rtype in (NS, CNAME, DNAME):
         front = draw.choice(["", "", 50 * "t" + ".", 55 * "t" + "."]) + draw.choice(["", LONG])
         data = name(front + draw.choice(["a.z.", "b.", ""]) or ".")
         return data if draw.random() < 0.98 else data[:-1]
     if rtype == A:
         return bytes([192, 0, 2, draw.randrange(3)])
+    if rtype == AAAA:
+        return bytes(15) + bytes([draw.randrange(3)])
     return text(draw.choice(["", "x", "y"]))
+
+
+def drawn_cut(draw, apex, known):
+    """The records of a cut: its name servers, and addresses for them and for other names."""
+    cut = draw.choice(["a.", "b.", "a.b.", "c."]) + apex.removeprefix(".")
+    near = [f"ns.{cut}", f"NS.{cut}", cut, f"ns.c.{cut}", f"c.{apex.removeprefix('.')}", apex, "ns.", *known]
+    servers = [draw.choice(near) for _ in range(draw.randrange(1, 4))]
+    yield from ((cut, NS, 3600, name(it)) for it in servers)
+    for owner in [*servers, draw.choice(near)]:
+        for rtype in [A, AAAA]:
+            if owner != "ns." and draw.random() < 0.6:
+                yield owner, rtype, draw.choice([60, 3600]), drawn_data(draw, rtype, apex, known)
 
 
 def drawn_zone(draw):
     """The apex, records and questions of a zone that is drawn."""
     apex = draw.choice(APEXES)
     known = [apex]
-    records = [(apex, SOA, 3600, SOA_DATA), (apex, NS, 7200, name("ns."))]
+    records = [(apex, SOA, *drawn_soa(draw)), (apex, NS, 7200, name("ns."))]
     records = records if draw.random() < 0.97 else records[draw.randrange(2) :][:1]
     for _ in range(draw.randrange(RECORDS + 1)):
         owner = drawn_name(draw, apex, known)
         owner = owner if draw.random() < 0.8 else f"*.{owner}".replace("..", ".")
         rtype = draw.choice(TYPES) if draw.random() < 0.97 else draw.choice(FOREIGN + [SOA])
         known.append(owner)
-        records.append((owner, rtype, draw.choice([60, 3600, 2**32 - 1]), drawn_data(draw, rtype)))
+        records.append((owner, rtype, draw.choice([60, 3600, 2**32 - 1]), drawn_data(draw, rtype, apex, known)))
+    if draw.random() < 0.3:
+        records += drawn_cut(draw, apex, known)
+        known += [owner for owner, rtype, _, _ in records if rtype == NS and owner != apex]
     draw.shuffle(records)
     return apex, records, [(drawn_name(draw, apex, known), draw.choice(ASKED)) for _ in range(QUESTIONS)]
 
@@ -326,8 +360,10 @@ def main():
         rows = [(apex, SOA, SOA_DATA), (apex, NS, name("ns.example.net.")), *rows]
         records = [(owner, rtype, 3600, data) for owner, rtype, data in rows]
         said = second.answers(apex, records, [it[:2] for it in questions])
-        if [it.split(" ", 4)[4] for it in said.split("; ")[1:]] != [it[2] for it in questions]:
-            sys.exit(f"{topic}: {said}, not {[it[2] for it in questions]}")
+        for shown, (asked, rtype, *wanted) in zip(said.split("; ")[1:], questions):
+            outcome, sections = shown.split(" ", 4)[4].split(" an=")
+            if wanted != [outcome, f"an={sections}"][: len(wanted)]:
+                sys.exit(f"{topic}: {asked} {rtype}: {shown}, not {wanted}")
         lines.append(line_of(apex, records, [it[:2] for it in questions]))
         answers.append(said)
     told = len(lines)

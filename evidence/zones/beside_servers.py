@@ -37,7 +37,7 @@ import dns.query
 import dns.rcode
 import dns.rdata
 import dns.rdataclass
-from dns.rdatatype import ANY, CNAME, DNAME, DS, KEY, NS, NSEC, RRSIG, SOA
+from dns.rdatatype import A, AAAA, ANY, CNAME, DNAME, DS, KEY, NS, NSEC, RRSIG, SOA
 
 HERE = pathlib.Path(__file__).resolve().parent
 TABLE = HERE.parent.parent / "crates" / "conformance_zones"
@@ -94,6 +94,7 @@ BIND = """options {{
   minimal-responses no;
   minimal-any no;
   empty-zones-enable no;
+  zero-no-soa-ttl no;
   dnssec-validation no;
   notify no;
   pid-file none;
@@ -145,6 +146,14 @@ KNOWN = [
     ),
     (
         ("named",),
+        NSEC,
+        ("referral",),
+        "NOERROR",
+        "a question for the NSEC of a cut is referred, as only DS is excepted (RFC 4035, 3.1.4.1). This server answers "
+        "it with the NSEC that the zone has there",
+    ),
+    (
+        ("named",),
         ANY,
         ("any types", "synthesized any types"),
         "NOERROR",
@@ -184,7 +193,7 @@ class Case:
 
     def has_valid_servers(self):
         """Whether the data of NS records are names: a server loads no others, and the table has some."""
-        return all(is_name(data) for _, rtype, _, data in self.records if rtype == NS)
+        return all(is_data(NS, data) for _, rtype, _, data in self.records if rtype == NS)
 
     def has_key_beside_cname(self):
         both = [{owner.lower() for owner, it, _, _ in self.records if it == rtype} for rtype in (KEY, CNAME)]
@@ -204,22 +213,35 @@ class Case:
 
 
 class Asked:
-    """A question, and the table's answer: AA, the response code, and words."""
+    """A question, and the table's answer: AA, the response code, words, and the sections."""
 
     def __init__(self, name, rtype, said):
         self.name, self.rtype = name, rtype
-        _, _, authoritative, code, answer = said.split(" ", 4)
+        said, _, sections = said.partition(" an=")
+        _, _, authoritative, code, self.answer = said.split(" ", 4)
         self.head = authoritative, code
-        self.words = answer.removeprefix("synthesized ").split(" ")
-        self.answer = answer
+        self.words = self.answer.removeprefix("synthesized ").split(" ")
+        sections = [it.partition("=")[2] for it in f"an={sections}".split(" ")]
+        _, self.authority, self.additional = ([] if it == "-" else it.split(",") for it in sections)
+
+
+def is_data(rtype, data):
+    """Whether the octets are data of the type."""
+    with contextlib.suppress(dns.exception.DNSException):
+        dns.rdata.from_wire(dns.rdataclass.IN, rtype, data, 0, len(data))
+        return True
+    return False
 
 
 def valid_data(rtype, data, apex):
     """Data that a server takes for the type. The table has any octets for these types; here they change a field that
-    may have any value."""
+    may have any value. An SOA without a MINIMUM gets the highest, so that its own TTL is the lower one."""
     some, signer, labels = hashlib.sha256(data).digest(), apex.to_wire(), len(apex.labels) - 1
     if rtype == SOA:
-        return data[:-20] + bytes.fromhex("00000001 00010000 00010000 00100000") + data[-4:]
+        names, minimum = (data[:-20], data[-4:]) if is_data(SOA, data) else (b"\0\0", b"\x7f\xff\xff\xff")
+        return names + bytes.fromhex("00000001 00010000 00010000 00100000") + minimum
+    if rtype == AAAA and len(data) != 16:
+        return some[:16]
     if rtype == DS:
         return bytes.fromhex("0001 08 02") + some
     if rtype == KEY:
@@ -229,13 +251,6 @@ def valid_data(rtype, data, apex):
     if rtype == NSEC:
         return signer + bytes.fromhex("00 05 00000000") + bytes([1 << some[0] % 8])
     return data
-
-
-def is_name(data):
-    """Whether the octets are a name without a pointer (RFC 1035, 3.1)."""
-    with contextlib.suppress(dns.exception.DNSException):
-        return dns.name.from_wire(data, 0)[1] == len(data)
-    return False
 
 
 def ask(port, name, rtype, seconds):
@@ -304,8 +319,26 @@ def agrees(case, asked, came):
     if kind == "referral":
         servers = [it for it in came.authority if it.rdtype == NS]
         return servers == owned(came.authority, rest[0]) and set(servers[0]) == case.data_of(rest[0], NS)
-    # Out of the zone nothing more is asked. No data and a name error show the zone's SOA (RFC 2308, 2).
-    return kind == "out" or [it.rdtype for it in owned(came.authority, case.apex)] == [SOA]
+    # Out of the zone nothing more is asked. No data and a name error show the zone's SOA (RFC 2308, 2 and 3).
+    return kind == "out" or fronts([it for it in came.authority if it.rdtype == SOA]) == fronts_of(asked.authority)
+
+
+def fronts(section):
+    """Owner, type and TTL of each RRset."""
+    return {(it.name, int(it.rdtype), it.ttl) for it in section}
+
+
+def fronts_of(section):
+    """The same of a section of the table."""
+    parts = (it.split("/") for it in section)
+    return {(dns.name.from_text(it[0]), int(it[1]), min(int(it[2]), HIGHEST_TTL)) for it in parts}
+
+
+def has_all_glue(asked, came):
+    """Whether the additional section of a referral has the addresses that the table's has, and no others. Duplicates
+    aren't counted."""
+    addresses = [it for it in came.additional if it.rdtype in (A, AAAA)]
+    return {it[:2] for it in fronts(addresses)} == {it[:2] for it in fronts_of(asked.additional)}
 
 
 def shown(came):
@@ -321,7 +354,7 @@ def why_known(server, case, asked, came):
         is_asked = rtype in (None, asked.rtype) and asked.answer.startswith(begins)
         # Nothing but what makes the difference may be known: DNSSEC's types alone are left out.
         is_hidden = rtype != ANY or case.types_for(asked.name) <= {DS, RRSIG, NSEC}
-        is_empty = rtype is None or not came.answer
+        is_empty = not came.answer or "referral" in begins or "too long" in begins
         if server in servers and is_asked and its == code and is_hidden and is_empty:
             return why
     return None
@@ -332,7 +365,8 @@ class Trial:
 
     def __init__(self, server, cases, room):
         self.server, self.room, self.ports = server, room, queue.SimpleQueue()
-        self.same, self.refused, self.known, self.faults = 0, 0, collections.Counter(), []
+        self.same, self.refused, self.faults = 0, 0, []
+        self.known, self.glue = collections.Counter(), collections.Counter()
         for it in range(WORKERS):
             self.ports.put(FIRST_PORT + it)
         with concurrent.futures.ThreadPoolExecutor(WORKERS) as pool:
@@ -364,6 +398,7 @@ class Trial:
             why = why_known(self.server, case, asked, response)
             if agrees(case, asked, response):
                 self.same += 1
+                self.glue[has_all_glue(asked, response)] += asked.words[0] == "referral"
             elif why:
                 self.known[why] += 1
             else:
@@ -376,21 +411,25 @@ def page(trials, cases, left, versions):
     asked = sum(len(it.asked) for it in cases)
     told = [
         f"`evidence/zones/beside_servers.py` of {datetime.date.today()}: {len(cases):,} zones of the conformance "
-        f"table, each loaded into each server, and {asked:,} questions to them. {left} zones are left out: the data of "
-        "an NS record there is no name, which the table doesn't ask for and no server loads.",
-        "A response agrees where its AA bit, its response code, and the RRsets that the answer names, with their "
-        "data, are those of the table. What follows after an alias isn't compared.",
+        f"table, each loaded into each server, and {asked:,} questions to them. {left} zones are left out: the data "
+        "of an NS record there is no name, which the table doesn't ask for and no server loads.",
+        "A response agrees where its AA bit, its response code, the RRsets that the answer names, with their data, "
+        "and the TTL of the SOA of a negative response are those of the table. What follows after an alias isn't "
+        "compared. The last column is the referrals with the same addresses in the additional section. The table's "
+        "have all that the zone has at the name servers (RFC 1034, 4.3.2, step 3b; RFC 9471, 3). NSD and Knot DNS "
+        "also make some from a wildcard, and BIND leaves out those that aren't below the cut.",
     ]
     yield "# The table of zones in name servers"
     for it in told:
         yield ""
         yield from textwrap.wrap(it, 118)
     yield ""
-    yield "| Server | Agree | Differ, as stated below | Other differences | Zones not loaded |"
-    yield "|---|--:|--:|--:|--:|"
+    yield "| Server | Agree | Differ, as stated below | Other differences | Zones not loaded | Same addresses |"
+    yield "|---|--:|--:|--:|--:|--:|"
     for it in trials:
         counts = it.same, sum(it.known.values()), len(it.faults) - it.refused, it.refused
-        yield f"| {versions[it.server]} | {' | '.join(f'{count:,}' for count in counts)} |"
+        addresses = f"{it.glue[True]:,} of {it.glue.total():,}"
+        yield f"| {versions[it.server]} | {' | '.join(f'{count:,}' for count in counts)} | {addresses} |"
     for it in trials:
         for why, count in it.known.items():
             yield ""

@@ -6,6 +6,7 @@
 
 mod answers;
 mod fields;
+mod sections;
 mod zones;
 
 use crate::zones::put_zone;

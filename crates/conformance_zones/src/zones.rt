@@ -2,9 +2,11 @@
 
 use crate::answers::{put_name, put_outcome};
 use crate::fields::{name_of, number_of};
+use crate::sections::put_sections;
 use conformance_labels::{Answer, Fail, is, octets_of, split_once};
 use domain_header::Class;
 use domain_zone::{BuildError, InsertError, Owner, Zone, ZoneBuilder};
+use domain_zone_answer::respond;
 use domain_zone_laws::zone::Rrset;
 use domain_zone_lookup::lookup;
 
@@ -64,6 +66,7 @@ fn put_answers(out: &Answer, zone: &Zone, questions: &[u8]) {
             put_owned(out, zone, &name, rtype);
             let asked = name.for_slice();
             put_outcome(out, &lookup(zone, &asked, rtype));
+            put_sections(out, &respond(zone, &asked, rtype));
         }
     }
 }

@@ -1,0 +1,46 @@
+#!/usr/bin/env python3
+"""Prints the records of the zone in stdin, as dnspython reads them, in canonical order (RFC 4034, 6.1), those of a name
+by type and by data. With two files it reads the first, and fails where the second has other lines."""
+
+import ipaddress
+import pathlib
+import sys
+
+import dns.name
+import dns.rdatatype
+import dns.zone
+
+
+def text_of(data):
+    """The text of data, base64 in one word, and an IPv6 address as RFC 5952 has it: dnspython keeps its spelling."""
+    if data.rdtype == dns.rdatatype.AAAA:
+        return str(ipaddress.IPv6Address(data.address))
+    return data.to_text(chunksize=0)
+
+
+def lines(path):
+    """A line for each record: owner, TTL, class, type and data."""
+    text = pathlib.Path(path).read_text()
+    origin = next(it.split()[1] for it in text.splitlines() if it.startswith("$ORIGIN"))
+    zone = dns.zone.from_text(text, origin=origin, relativize=False)
+    for name in sorted(zone.nodes, key=lambda it: [label.lower() for label in reversed(it.labels)]):
+        for rdataset in sorted(zone.nodes[name], key=lambda it: it.rdtype):
+            kind = dns.rdatatype.to_text(rdataset.rdtype)
+            for data in sorted(rdataset, key=lambda it: it.to_wire(origin=dns.name.root)):
+                yield f"{name} {rdataset.ttl} IN {kind} {text_of(data)}"
+
+
+def main():
+    made = list(lines(sys.argv[1]))
+    if len(sys.argv) == 2:
+        print(*made, sep="\n")
+        return 0
+    differ = [it for it in zip(made, pathlib.Path(sys.argv[2]).read_text().splitlines(), strict=True) if it[0] != it[1]]
+    for ours, its in differ:
+        print(f"dnspython has {ours}, the program {its}")
+    print(f"{len(made)} records, {len(differ)} differences")
+    return int(bool(differ))
+
+
+if __name__ == "__main__":
+    sys.exit(main())

@@ -1,0 +1,5 @@
+pub mod Splitting
+pub mod Outcomes
+pub mod Fronts
+pub mod Naming
+pub mod Owning
