@@ -130,25 +130,29 @@ fn first_soa(records: &[Placed]) -> Option<&Record> {
     None
 }
 
-/// Returns a copy of a name in wire format.
-fn name_of(alloc: Global, octets: &[u8]) -> Result<Owner, LoadError> {
+/// Returns the name that octets are in wire format. Those of an owner that was read are one.
+fn name_of(octets: Vec<u8>) -> Result<Owner, LoadError> {
+    Name::from_octets(octets).map_err(|_| LoadError::NoSoa)
+}
+
+/// Returns the apex and the class of the zone: the owner and the class of the first SOA.
+fn apex_of(alloc: Global, records: &[Placed]) -> Result<(Owner, Class), LoadError> {
+    let Some(soa) = first_soa(records) else {
+        return Err(LoadError::NoSoa);
+    };
     let mut copy = Vec::new(alloc);
-    copy.extend_from_slice(octets)?;
-    // An owner that was read is a name.
-    Name::from_octets(copy).map_err(|_| LoadError::NoSoa)
+    copy.extend_from_slice(soa.owner.as_slice())?;
+    Ok((name_of(copy)?, Class::from_int(soa.class)))
 }
 
 /// Returns the zone of the records of a text. Its apex is the owner of the first SOA, and its class that of this SOA.
 pub fn load(alloc: Global, text: &[u8]) -> Result<Zone, LoadError> {
     let records = read_records(alloc, text)?;
-    let Some(soa) = first_soa(records.as_slice()) else {
-        return Err(LoadError::NoSoa);
-    };
-    let apex = name_of(alloc, soa.owner.as_slice())?;
-    let mut builder = ZoneBuilder::new(alloc, Class::from_int(soa.class), apex);
+    let (apex, class) = apex_of(alloc, records.as_slice())?;
+    let mut builder = ZoneBuilder::new(alloc, class, apex);
     for placed in records {
         let Placed { record, at } = placed;
-        let owner = name_of(alloc, record.owner.as_slice())?;
+        let owner = name_of(record.owner)?;
         let class = Class::from_int(record.class);
         match builder.insert(owner, record.rtype, class, record.ttl, record.data) {
             Ok(()) => (),

@@ -12,11 +12,13 @@ mod response;
 use crate::load::{LoadError, load};
 use crate::print::{Front, put_records};
 use crate::response::put_response;
+use domain_builder::FromStrError;
 use domain_name::Name;
+use domain_rdata::Rtype;
 use domain_record::rtype_from_text;
 use domain_tool::start::{Program, start};
-use domain_tool::tool::read_all;
-use domain_zone::Zone;
+use domain_tool::tool::{ToolError, read_all};
+use domain_zone::{Owner, Zone};
 use std::alloc::{AllocError, Global};
 use std::io::{Read, Write};
 use std::process::ExitCode;
@@ -36,6 +38,15 @@ pub enum Failure {
     Memory,
     /// Reading or writing failed.
     Stream,
+}
+
+impl From<LoadError> for Failure {
+    fn from(error: LoadError) -> Failure {
+        match error {
+            LoadError::Memory => Failure::Memory,
+            _ => Failure::NoZone(error),
+        }
+    }
 }
 
 impl From<AllocError> for Failure {
@@ -58,40 +69,49 @@ fn put_zone(alloc: Global, zone: &Zone, out: &mut Vec<u8>) -> Result<(), AllocEr
     Ok(())
 }
 
-/// Appends the response of a zone to a question.
-fn put_answer(
-    alloc: Global,
-    zone: &Zone,
-    words: [&str; 2],
-    out: &mut Vec<u8>,
-) -> Result<(), Failure> {
-    let Ok(name) = Name::vec_from_str(alloc, words[0]) else {
-        return Err(Failure::Usage);
-    };
-    let Some(rtype) = rtype_from_text(words[1]) else {
-        return Err(Failure::Usage);
-    };
-    let asked = name.for_slice();
-    put_response(alloc, zone, &asked, rtype, out)?;
-    Ok(())
+/// What the words ask for.
+#[derive(Drop)]
+enum Asked {
+    /// The records of the zone.
+    Records,
+    /// The response to a question for records of a type at a name.
+    Response(Owner, Rtype),
+}
+
+/// Returns what the words ask for.
+fn asked_by(alloc: Global, words: &[&str]) -> Result<Asked, Failure> {
+    match words {
+        ["check"] => Ok(Asked::Records),
+        ["ask", name, rtype] => {
+            let Some(rtype) = rtype_from_text(rtype) else {
+                return Err(Failure::Usage);
+            };
+            match Name::vec_from_str(alloc, name) {
+                Ok(name) => Ok(Asked::Response(name, rtype)),
+                Err(FromStrError::Presentation(_)) => Err(Failure::Usage),
+                Err(FromStrError::ShortBuf) => Err(Failure::Memory),
+            }
+        }
+        _ => Err(Failure::Usage),
+    }
 }
 
 /// Returns what the words ask for of the zone whose text is the input.
 fn shown<R: Read>(alloc: Global, words: &[&str], input: &mut R) -> Result<Vec<u8>, Failure> {
-    let Ok(text) = read_all(alloc, input) else {
-        return Err(Failure::Stream);
+    let asked = asked_by(alloc, words)?;
+    let text = match read_all(alloc, input) {
+        Ok(text) => text,
+        Err(ToolError::Memory) => return Err(Failure::Memory),
+        Err(_) => return Err(Failure::Stream),
     };
+    let zone = load(alloc, text.as_slice())?;
     let mut out = Vec::new(alloc);
-    match words {
-        ["check"] => {
-            let zone = load(alloc, text.as_slice()).map_err(Failure::NoZone)?;
-            put_zone(alloc, &zone, &mut out)?;
+    match &asked {
+        Asked::Records => put_zone(alloc, &zone, &mut out)?,
+        Asked::Response(name, rtype) => {
+            let name = name.for_slice();
+            put_response(alloc, &zone, &name, *rtype, &mut out)?;
         }
-        ["ask", name, rtype] => {
-            let zone = load(alloc, text.as_slice()).map_err(Failure::NoZone)?;
-            put_answer(alloc, &zone, [*name, *rtype], &mut out)?;
-        }
-        _ => return Err(Failure::Usage),
     }
     Ok(out)
 }
