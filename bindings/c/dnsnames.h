@@ -571,8 +571,15 @@ dnsnames_status dnsnames_builder_record(dnsnames_builder *builder, uint32_t sect
 
 /* Pushes an OPT record into the additional section (RFC 6891, 6.1): how many octets of a message over UDP its sender
  * takes, the upper eight bits of a response code of twelve (code >> 4), the version of EDNS, which is 0, the bit DO
- * where dnssec_ok isn't 0 (RFC 3225, 3), and options in wire format: each a code and a length of 16 bits and its octets.
- * A message has one at most. NO_BUILDER, TOO_MANY_ENTRIES, NO_ROOM. */
+ * where dnssec_ok isn't 0 (RFC 3225, 3), and options in wire format: each a code and a length of 16 bits and its
+ * octets. They aren't checked: a reader refuses octets that end inside an option. A message has at most one OPT
+ * record, which isn't checked either. NO_BUILDER, TOO_MANY_ENTRIES, NO_ROOM.
+ *
+ *     // A client cookie (RFC 7873, 4): code 10, and 8 octets, which the program draws at random.
+ *     uint8_t options[12] = {0, 10, 0, 8};
+ *     memcpy(options + 4, cookie, 8);
+ *     status = dnsnames_builder_opt(&builder, 1232, 0, 0, 0, options, sizeof options);
+ */
 dnsnames_status dnsnames_builder_opt(dnsnames_builder *builder, uint16_t size, uint8_t rcode_ext, uint8_t version,
                                      uint32_t dnssec_ok, const uint8_t *options, size_t options_len);
 

@@ -148,8 +148,8 @@ SHAPES = {
 LOWERCASE = {2, 3, 4, 5, 6, 7, 8, 9, 12, 14, 15, 17, 18, 21, 24, 26, 30, 33, 35, 36, 38, 39, 46}
 
 
-# The data of the types that `typed` asks. Beside the letters above: s a character string, t a tag, T a type, D a time, x, b and q
-# all that is left, in hexadecimal digits, in base64, between quotes, m bitmaps of types.
+# The data of the types that `typed` asks. Beside the letters above: s a character string, t a tag, T a type, D a time, m bitmaps
+# of types. The octets to the end are x in hexadecimal digits, b in base64, q between quotes.
 TYPED = {
     13: "ss",  # RFC 1035
     35: "22sssw",  # RFC 3403

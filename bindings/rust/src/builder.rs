@@ -71,9 +71,9 @@ impl<'a> MessageBuilder<'a> {
     }
 
     /// Pushes a record into a section. A name in its data is its [`Name::as_slice`]; data that were cut out of another
-    /// message may have pointers, which would lead elsewhere here. Names are compressed where the type is one of RFC 1035,
-    /// 3.3 (NS, MD, MF, CNAME, SOA, MB, MG, MR, PTR, MINFO, MX), and the data are exactly the fields of that type. All
-    /// other data are written unchanged. `WrongOrder` where a later section has a record, `NoRoom`, `TooManyEntries`.
+    /// message may have pointers, which would lead elsewhere here. Names are compressed in data that are exactly the
+    /// fields of a type of RFC 1035, 3.3: NS, MD, MF, CNAME, SOA, MB, MG, MR, PTR, MINFO, MX. All other data are
+    /// written unchanged. `WrongOrder` where a later section has a record, `NoRoom`, `TooManyEntries`.
     pub fn record(
         &mut self,
         section: Section,
@@ -106,10 +106,10 @@ impl<'a> MessageBuilder<'a> {
         Fault::check(status, None)
     }
 
-    /// Pushes an OPT record into the additional section (RFC 6891, 6.1): how many octets of a message over UDP are
-    /// taken, the upper eight bits of a response code of twelve, the version, the bit DO, and options in wire format,
-    /// as [`EdnsOption::write_all`](crate::EdnsOption::write_all) writes them. A message has one at most. `ShortInput`
-    /// where the octets end inside an option, `NoRoom`, `TooManyEntries`.
+    /// Pushes an OPT record into the additional section (RFC 6891, 6.1). It has the number of octets of a message over
+    /// UDP that are taken, the upper eight bits of a response code of twelve, the version and the bit DO. Its options
+    /// are in wire format, as [`EdnsOption::write_all`](crate::EdnsOption::write_all) writes them. A message has one
+    /// OPT record at most. `ShortInput` where the octets end inside an option, `NoRoom`, `TooManyEntries`.
     ///
     /// ```
     /// use dnsnames::{EdnsOption, Fault, MessageBuilder};

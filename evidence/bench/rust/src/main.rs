@@ -12,10 +12,10 @@
 //! With `--rounds PEER N` nothing is measured or printed: one implementation makes
 //! all calls of each file so often, for a program that counts its instructions.
 //!
-//! With `--once` nothing is measured: each operation is called once for each case,
-//! names that were composed with compression are compared octet by octet with
-//! what a plain search composes and read back, each difference is printed, and
-//! the status is 1 where there was one.
+//! With `--once` nothing is measured: each operation is called once for each case.
+//! Names that were composed with compression are read back, and compared octet by
+//! octet with what a plain search composes. Each difference is printed, and the
+//! status is 1 where there was one.
 //!
 //! Each operation is a function of slices and numbers that gives a number, so
 //! that an implementation behind `extern "C"` can stand beside it (see build.rs).
@@ -614,8 +614,8 @@ fn chained(name: &[u8]) -> u64 {
 
 //------------ Whole messages ------------------------------------------------
 
-// The crate's modules for messages aren't among the sources that are at hand, so this is a plain reader over its
-// parser, names and unknown data, which keeps of a record what theirs keeps.
+// The crate's modules for messages aren't among the sources that are at hand. So this is a plain reader over its
+// parser, names and unknown data. It keeps of a record what theirs keeps.
 
 struct ParsedRecord<'a> {
     owner: ParsedName<&'a [u8]>,
@@ -998,7 +998,7 @@ fn lent<'a>(octets: *const u8, len: usize) -> &'a [u8] {
 
 /// An operation behind a C function, as another implementation's is, so that the border between two languages costs
 /// the same on both sides. The function is called by an address that is read anew for each call, as that of a function
-/// of another library is; else the compiler would see that no slice is null, and leave the test out.
+/// of another library is. Otherwise the compiler would see that no slice is null, and leave the test out.
 macro_rules! on_message {
     ($op:ident) => {
         (stringify!($op), {

@@ -1,10 +1,12 @@
 //! Writing messages with the crate's names, data of records and `Composer`.
 //!
 //! The crate's modules for messages and its compressors aren't among the sources that are at hand. So this is a plain
-//! builder, which like the crate's counts each entry in the header and takes a refused one away again, and three
-//! composers, which find suffixes in the ways of the crate's three: the offsets gone over one by one, at most 24, as
-//! by `StaticCompressor`; a tree of labels, as by `TreeCompressor`; and a hash table of labels with what follows them,
-//! as by `HashCompressor`.
+//! builder, which like the crate's counts each entry in the header and takes a refused one away again. Beside it are
+//! three composers, which find suffixes in the ways of the crate's three:
+//!
+//! - `StaticCompressor`: the offsets gone over one by one, at most 24;
+//! - `TreeCompressor`: a tree of labels;
+//! - `HashCompressor`: a hash table of labels with what follows them.
 
 use crate::{REFUSED, and_label, told};
 use domain::base::iana::Rtype;
