@@ -1,5 +1,6 @@
 """Where the repository and the passes of this machine are, its crates, and how a run that can't go on ends."""
 
+import graphlib
 import os
 import pathlib
 import re
@@ -33,6 +34,10 @@ def read_crates():
             if name in listed:
                 stop(f"crates.txt:{number} lists {name} again")
             listed[name] = head, uses.split()
+    try:
+        graphlib.TopologicalSorter({name: uses for name, (_, uses) in listed.items()}).prepare()
+    except graphlib.CycleError as why:
+        stop(f"crates.txt has a crate that stands on itself: {' '.join(why.args[1])}")
     return listed
 
 

@@ -65,6 +65,11 @@ pub use Rattle.domain_message.specs.Runs
 pub use Rattle.domain_message.specs.Aliases
 pub use Rattle.domain_message.specs.Answering
 pub use Rattle.domain_message.specs.Kept
+pub use Rattle.domain_stream.specs.Framing
+pub use Rattle.domain_stream.specs.Errors as StreamErrors
+pub use Rattle.domain_stream.specs.Readers as StreamReaders
+pub use Rattle.domain_stream.specs.Views as StreamViews
+pub use Rattle.domain_stream.specs.Laws as StreamLaws
 pub use Rattle.domain_edns.specs.Options
 pub use Rattle.domain_edns.specs.OptRecords
 pub use Rattle.domain_edns.specs.Views as OptDataViews

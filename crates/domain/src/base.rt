@@ -115,6 +115,13 @@ pub mod message_builder {
     };
 }
 
+/// Messages in a stream, each after its length (RFC 1035, 4.2.2; RFC 7766, 8). crates/domain_stream/README.md shows
+/// how to read them.
+pub mod stream {
+    pub use domain_stream::laws::stream_laws;
+    pub use domain_stream::{CutOff, StreamError, StreamMessages, StreamReader, append_message};
+}
+
 /// OPT records that are read (RFC 6891).
 pub mod opt {
     pub use domain_edns::{

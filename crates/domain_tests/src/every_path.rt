@@ -69,6 +69,12 @@ pub mod message_builder {
     };
 }
 
+pub mod stream {
+    pub use domain::base::stream::{
+        CutOff, StreamError, StreamMessages, StreamReader, append_message, stream_laws,
+    };
+}
+
 pub mod opt {
     pub use domain::base::opt::{
         ClientSubnet, Cookie, EdnsOption, ExtendedError, Nsid, OptData, OptError, OptIter,
