@@ -1361,6 +1361,28 @@ for count in range(5):
 ran(["list"], COUNTED + b"".join(octets for octets, _line in ENTRIES), 0, b"".join(line for _octets, line in ENTRIES))
 
 
+topic("labels that open at the limit, and values of the crate's own tests")
+WWW, WW4 = (absolute(it, b"example", b"com") for it in (b"www", b"ww4"))
+TENS = ";".join(["label:" + hx(b"123456789")] * 25)
+told("build", TENS + ";slice:31323334", "ok;" * 25 + "LongName " + hx(rel(*[b"123456789"] * 25)) + " 0")
+told("build", "label:777777;label:6578616d706c65;slice:636f6d;finish", "ok;ok;ok;ok " + hx(WWW[:-1]))
+told("serial", 12, 112, "<")
+for word in ("name", "rel"):
+    told(word, "a261736461736473", "err BadLabel(Undefined) undefined label type")
+    told(word, "6261736461736473", "err BadLabel(Extended(98)) unknown extended label 0x62")
+    told(word, "cc61736461736473", "err CompressedName compressed domain name")
+told("cmp", WWW, WW4, f"eq=0 cmp=> composed=> lower=> starts=0 ends=0 hash={hx(WWW)} {hx(WW4)}")
+told("relcmp", WWW[:-1], WW4[:-1], f"eq=0 cmp=> starts=0 ends=0 hash={hx(WWW[:-1])} {hx(WW4[:-1])}")
+told("text", b"wWw.exAmpLE.coM.", "ok " + hx(absolute(b"wWw", b"exAmpLE", b"coM")))
+told("nparse", WWW + b"af", 0, f"ok {hx(WWW)} 17")
+told("nparse", WWW[:12], 0, "err 0 unexpected end of input")
+SHOUTED = absolute(b"wWw", b"EXAMPLE", b"com")
+BOTH_WAYS = "eq=1 cmp== composed={} lower== starts=1 ends=1 hash={} {}"
+SAME = " / ".join(BOTH_WAYS.format(it, hx(WWW), hx(WWW)) for it in "><")
+told("pname", WWW + b"\xc0\0", 0, SHOUTED, SAME)
+told("pname", absolute(b"com") + rel(b"www", b"example") + b"\xc0\0", 5, SHOUTED, SAME)
+own("compress", hx(WWW) + ";canonical:" + hx(absolute(b"ns", b"example", b"com")), f"{hx(WWW)};0010{hx(absolute(b'ns', b'example', b'com'))}")
+
 topic("names read slowly, at each offset")
 
 
