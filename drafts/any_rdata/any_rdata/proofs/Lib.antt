@@ -1,0 +1,8 @@
+pub mod Named
+pub mod Composed
+pub mod Lengths
+pub mod Forms
+pub mod Reader
+pub mod Back
+pub mod Line
+pub mod Looks

@@ -1,0 +1,10 @@
+pub mod Parts
+pub mod Composing
+pub mod AllData
+pub mod Reading
+pub mod Keys
+pub mod Readers
+pub mod Owned
+pub mod Shown
+pub mod Looks
+pub mod Back

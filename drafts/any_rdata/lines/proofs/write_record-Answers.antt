@@ -1,0 +1,7 @@
+-- domain_lines/proofs/record/write_record/Answers.antt: `-in-Err-clause-written` has `NoDataAt` in place of `NoAllData`:
+--     let none : NoDataAt it.header.rtype it.header.class it.octets it.start why = (c.in-Err.fault, <AreNoData, rewritten by
+--         data's clauses message and offset, rtype's and class's>, c.from-why.ensures) in
+-- and the arm `Ok` needs an answer, which search found before: IsRdata (IsAllData) gives that `rdata_line` of the view is
+-- `line_at (known_fields ..) m p`:
+--     line_is : IsRdata t c m p it → rdata_line it ≡ line_at (known_fields t c) m p     (three `ap`s, as parts_of_data)
+-- and `Record`'s output is `text_before_data .. ++? Some (rdata_line ..)` with `D.type_number (data_of it) ≡ rtype_number`.
