@@ -527,7 +527,7 @@ def in_message(row):
 
 def has_no_bitmap(row):
     """Whether data is without the bitmap that is its last field."""
-    fields = {NSEC: 1, CSYNC: 2}.get(row.rtype, 0)
+    fields = {NSEC: 1}.get(row.rtype, 0)
     return fields > 0 and len((in_message(row).answer() or b"").split()) == fields
 
 
@@ -571,7 +571,7 @@ ONE_SIDED = (
      lambda it: it.reason == "LongData" and len(it.row.answer()) > 65535),
     ("there is one string or more", "RFC 1035, 3.3.14; RFC 7208, 3.1",
      lambda it: it.reason in ("NotData", "ShortInput") and it.row.rtype in (TXT, SPF, AVC) and it.row.answer() == b""),
-    ("there is one block of a bitmap or more", "RFC 4034, 4.1.2; RFC 7477, 2.1.1.3",
+    ("there is one block of a bitmap or more", "RFC 4034, 4.1.2",
      lambda it: it.reason in ("NotData", "ShortInput") and has_no_bitmap(it.row)),
     ("the name of NXT is read", "RFC 2535, 5.2",
      lambda it: it.reason.split("/")[0] in ("NotData", "Name") and has_no_name(it.row)),
@@ -671,7 +671,7 @@ class Entry(NamedTuple):
 def class_of(word):
     """The class that a word is, None where it is none."""
     try:
-        return int(dns.rdataclass.from_text(word.decode("latin-1")))
+        return int(dns.rdataclass.from_text("ANY" if word == b"*" else word.decode("latin-1")))
     except Exception:  # of several kinds
         return None
 
@@ -894,7 +894,7 @@ def main():
     with open(sys.argv[1], "rb") as lines, open(sys.argv[2], "rb") as answers:
         for line, answer in zip(lines, answers, strict=True):
             line, answer = line.rstrip(b"\n"), answer.rstrip(b"\n")
-            if line.startswith(b"#") or answer == b"bad":
+            if not line.startswith((b"read ", b"show ", b"zone ")) or answer == b"bad":
                 continue
             found, row = compared(line, answer)
             if found is None:

@@ -83,7 +83,7 @@ FIELDS = {
     "CDS": "Number16 Number8 Number8 Base16",  # RFC 7344, 3.1
     "CDNSKEY": "Number16 Number8 Number8 Base64",  # RFC 7344, 3.2
     "OPENPGPKEY": "Base64",  # RFC 7929, 2.1
-    "CSYNC": "Serial Number16 TypeBitmaps",  # RFC 7477, 2.1
+    "CSYNC": "Serial Number16 OptionalTypeBitmaps",  # RFC 7477, 2.1, which has one block or more: none is taken, too
     "ZONEMD": "Serial Number8 Number8 Base16",  # RFC 8976, 2.2
     "SVCB": "Number16 Name SvcParams",  # RFC 9460, 2.2
     "HTTPS": "Number16 Name SvcParams",  # RFC 9460, 9
@@ -473,10 +473,10 @@ def name_at(message, begin):
 
 def end_of_tag(message, at):
     """Returns the offset after a tag of one letter or digit or more (RFC 8659, 4.1)."""
-    count = number_at(message, at, 1)
-    if not re.fullmatch(rb"[0-9A-Za-z]*", message[at + 1:at + 1 + count]) or count == 0:
+    end = end_of_counted(message, at, 1)
+    if not re.fullmatch(rb"[0-9A-Za-z]+", message[at + 1:end]):
         raise Fault("InvalidTag")
-    return end_of_counted(message, at, 1)
+    return end
 
 
 def end_of_hash(message, at):
@@ -503,10 +503,10 @@ def end_of_bitmaps(message, at):
     """Returns the offset after blocks of a bitmap, or none, whose windows ascend (RFC 4034, 4.1.2)."""
     last = -1
     while at < len(message):
-        window = message[at]
+        window, count = message[at], number_at(message, at + 1, 1)
         if window <= last:
             raise Fault("WindowOrder")
-        if not 1 <= number_at(message, at + 1, 1) <= MOST_BITMAP:
+        if not 1 <= count <= MOST_BITMAP:
             raise Fault("BitmapLength")
         last, at = window, end_of_counted(message, at + 1, 1)
     return at

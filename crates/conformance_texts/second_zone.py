@@ -14,7 +14,7 @@ sys.dont_write_bytecode = True
 import second
 
 IN = 1
-CLASSES = {b"IN": 1, b"CH": 3, b"HS": 4, b"NONE": 254, b"ANY": 255}  # the registry of RFC 6895, 3.2
+CLASSES = {b"IN": 1, b"CH": 3, b"HS": 4, b"NONE": 254, b"ANY": 255, b"*": 255}  # the registry of RFC 6895, 3.2
 MOST_LABEL, MOST_NAME, MOST_TTL = 63, 255, 2**31 - 1  # RFC 1035, 2.3.4; RFC 2181, 8
 SECONDS = {b"w": 604800, b"d": 86400, b"h": 3600, b"m": 60, b"s": 1}
 OPENING, CLOSING, LINE_END, BACKSLASH = b"(", b")", b"\n", b"\\"
