@@ -3,11 +3,11 @@ use Rattle.std.proofs.Common.{◌≡◌, ℕ, ◌+◌, ◌<◌, ◌≤◌, List,
 use Rattle.std.specs.Prelude.{Bool}
 use Rattle.std.specs.Int.{w16, to_be_bytes}
 use Rattle.domain_rdata.specs.ReadBack.{Appended, Exceeds}
-use Rattle.domain_rdata.specs.RecordData.{NameOctets, LengthAndData, ExceedsWithLength, IsTooLong, ComposeRefused}
+use Rattle.domain_rdata.specs.RecordData.{NameOctets, LengthAndData, ExceedsWithLength, IsTooLong, ComposeRefused, IfLong}
 use Rattle.domain_rdata.specs.declared.record_data.ComposeRdataError.{ComposeRdataError}
 use Rattle.domain_rdata.specs.declared.record_data.ComposeRdataError.TheVariants.{Append, Long}
-use Rattle.domain_rdata.specs.LeavingNames.{LeavesNames}
-use Rattle.domain_record.specs.LeftToTarget.{NameThenData}
+use Rattle.domain_rdata.specs.LeavingNames.{LeavesNames, Outgrows}
+use Rattle.domain_record.specs.LeftToTarget.{NameThenData, NameThenLong}
 use Rattle.domain_record.specs.MayCompose.{IsNameThen, RefusesRecord}
 use Rattle.domain_record.specs.MayCompose.RefusesRecord.{at_data}
 use Rattle.domain_record.specs.Composing.{BeginsWithName, type_and_class, QuestionOctets, before_length, RecordOctets, RecordExceeds, ComposeRecordRefused}
@@ -110,6 +110,17 @@ name_then_data octets extends cuts appends written old named numbered new number
       numbered = numbered;
       front = record { named = named; name = name; rest = subst P (same ∙ ap (λ k. before_length k class ttl) typed) done };
       rest = rest;
+    }
+
+-- the data is too long after the owner's name and the numbers
+pub data_outgrows : {T E : Type 0} (octets : T → List ℕ) (extends : T → List ℕ → T → Type 0) (cuts : T → ℕ → T → Type 0) (appends written : T → T → Type 0) (uncompressed : List ℕ) (old named numbered : T) (numbers : List ℕ) (r rtype class ttl : ℕ) (e : ComposeRdataError E) → appends old named → extends named numbers numbered → numbers ≡ before_length r class ttl → r ≡ rtype → IfLong (Outgrows octets extends cuts written uncompressed numbered) e → IfLong (NameThenLong octets extends cuts appends written uncompressed (before_length rtype class ttl) old) e
+data_outgrows octets extends cuts appends written uncompressed old named numbered numbers r rtype class ttl (Append e) name done same typed long = tt
+data_outgrows octets extends cuts appends written uncompressed old named numbered numbers r rtype class ttl (Long e) name done same typed long =
+    let P : List ℕ → Type 0 = λ x. extends named x numbered in
+    record {
+      numbered = numbered;
+      front = record { named = named; name = name; rest = subst P (same ∙ ap (λ k. before_length k class ttl) typed) done };
+      rest = long;
     }
 
 -- the data was refused after the owner's name and the numbers

@@ -3,7 +3,7 @@
 -- of a target. `extends` and `appends` are what it becomes where its calls appended octets or a name. `cuts` is what
 -- it becomes where it was cut, and `written` where data was composed into it.
 use Rattle.std.specs.Prelude.{ℕ, List}
-use Rattle.domain_rdata.specs.LeavingNames.{LeavesNames}
+use Rattle.domain_rdata.specs.LeavingNames.{LeavesNames, Outgrows}
 use Rattle.domain_record.specs.declared.question.Question.{Question}
 use Rattle.domain_record.specs.declared.resource_record.Record.{Record}
 use Rattle.domain_record.specs.MayCompose.{after_qname, after_owner}
@@ -24,6 +24,14 @@ pub record NameThenData {T : Type 0} (octets : T → List ℕ) (extends : T → 
   pub numbered : T
   pub front : NameThen extends appends numbers old numbered
   pub rest : LeavesNames octets extends cuts written numbered new
+
+-- The same, and data after them that is too long, as the target writes it.
+pub record NameThenLong {T : Type 0} (octets : T → List ℕ) (extends : T → List ℕ → T → Type 0)
+    (cuts : T → ℕ → T → Type 0) (appends written : T → T → Type 0)
+    (uncompressed numbers : List ℕ) (old : T) : Type 0 where
+  pub numbered : T
+  pub front : NameThen extends appends numbers old numbered
+  pub rest : Outgrows octets extends cuts written uncompressed numbered
 
 -- The question was composed so.
 abbrev pub WritesQuestion : {N T : Type 0} → (N → List (List ℕ)) → (T → List ℕ → T → Type 0)

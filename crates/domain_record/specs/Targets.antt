@@ -6,12 +6,12 @@ use Rattle.domain_header.specs.declared.ttl.Ttl.{Ttl}
 use Rattle.domain_rdata.specs.Canonical.{canonical_form, names_known, WithLengthAndForm}
 use Rattle.domain_rdata.specs.Members.{ComposerMembers, DataMembers}
 use Rattle.domain_rdata.specs.ReadBack.{Appended, Exceeds}
-use Rattle.domain_rdata.specs.RecordData.{ComposeRefused}
+use Rattle.domain_rdata.specs.RecordData.{ComposeRefused, IfLong}
 use Rattle.domain_rdata.specs.declared.record_data.CanonicalError.{CanonicalError}
 use Rattle.domain_rdata.specs.declared.record_data.ComposeRdataError.{ComposeRdataError}
 use Rattle.domain_record.specs.CanonicalRecords.{canonical_head, CanonicalRecordRefused}
 use Rattle.domain_record.specs.Composing.{BeginsWithName}
-use Rattle.domain_record.specs.LeftToTarget.{WritesQuestion, WritesRecord}
+use Rattle.domain_record.specs.LeftToTarget.{WritesQuestion, WritesRecord, NameThenLong}
 use Rattle.domain_record.specs.MayCompose.{after_qname, after_owner, IsNameThen, RefusesRecord, MayComposeQuestion, MayComposeRecord, MayRefuseRecord}
 use Rattle.domain_record.specs.RecordParts.{owner_of, class_of, data_of}
 use Rattle.domain_record.specs.Views.{question_name}
@@ -80,6 +80,13 @@ TargetRefuses g labels d r old e =
     RefusesRecord g.octets (g.may_append old (labels (owner_of r)))
     (λ a b. g.appends a (labels (owner_of r)) b) (after_owner d.type_number r)
     (λ t. ComposeRefused (d.composed (data_of r) g.compresses) t) old (g.capacity old) e
+
+-- A record whose data is too long: the data is so as the target writes it after the owner's name and the numbers.
+abbrev pub RecordOutgrows : {T N D E : Type 0} → ComposerMembers T → (N → List (List ℕ)) → DataMembers D → Record N D → T → ComposeRdataError E → Type 0
+RecordOutgrows {T = T} g labels d r old e =
+    IfLong (NameThenLong g.octets g.extends g.cuts (λ a b. g.appends a (labels (owner_of r)) b)
+    (d.written (data_of r) T g.extends g.appends) (d.uncompressed (data_of r))
+    (after_owner d.type_number r) old) e
 
 -- whether it is known which octets of the record's data are names, where the canonical form asks for it
 abbrev pub names_known_of : {N D : Type 0} → DataMembers D → Record N D → Bool

@@ -14,7 +14,7 @@ ghost use Rattle.domain_header.specs.Values.{class_number, ttl_seconds};
 ghost use Rattle.domain_record.specs.Composing.{before_length};
 ghost use Rattle.domain_record.specs.Texts.{text_before_data};
 ghost use Rattle.domain_record.specs.Targets.{SameMemory, ComposesRecord, BeginsWithOwner, Takes};
-ghost use Rattle.domain_record.specs.Targets.{RecordNotComposed, TargetRefuses, ComposesForm, FormNotComposed};
+ghost use Rattle.domain_record.specs.Targets.{RecordNotComposed, TargetRefuses, RecordOutgrows, ComposesForm, FormNotComposed};
 
 use crate::rtype_text::RtypeText;
 use domain_header::{Class, Ttl};
@@ -222,9 +222,9 @@ impl<Octs: Octets, D: RecordData + fmt::Display> fmt::Display for Record<ParsedN
 
 impl<'a, N: AbsoluteLabels<'a>, D: ComposeRecordData> Record<N, D> {
     /// Appends the record: owner, type, class, TTL, the length of the data, and the data. Names are as the target
-    /// composes them. Returns `Long` only if data that can be appended has more than 65,535 octets. Returns `Append`
-    /// only if the record exceeds the spare capacity, with its owner's name as the target can then write it. After an
-    /// error, the target's octets, and what it remembers, are unchanged.
+    /// composes them. Returns `Long` only if the data has more than 65,535 octets as the target writes it. Returns
+    /// `Append` only if the record exceeds the spare capacity, with its owner's name as the target can then write it.
+    /// After an error, the target's octets, and what it remembers, are unchanged.
     pub fn compose<Target: Composer>(
         &'a self,
         target: &mut Target,
@@ -245,6 +245,8 @@ impl<'a, N: AbsoluteLabels<'a>, D: ComposeRecordData> Record<N, D> {
             (RecordNotComposed Target.Composer N.labels D.ComposeRecordData self.now target.old) }
         ensures tight { IfErr result
             (TargetRefuses Target.Composer N.labels D.ComposeRecordData self.now target.old) }
+        ensures long { IfErr result
+            (RecordOutgrows Target.Composer N.labels D.ComposeRecordData self.now target.old) }
         ensures capacity { Target.capacity target.old ≤ Target.capacity target.new }
     {
         let start = target.as_slice().len();

@@ -1,6 +1,6 @@
 use Rattle.std.proofs.Common.{length, ap, arith}
 use Rattle.domain_record.specs.RecordParts.{owner_of}
-use Rattle.domain_record.proofs.ComposingRecords.{name_appended, numbers_after, numbers_exceed, data_refused, begins_with_owner, record_appended, name_then_data, named_exceeds, after_name_exceeds, refused_at_data}
+use Rattle.domain_record.proofs.ComposingRecords.{name_appended, numbers_after, numbers_exceed, data_refused, begins_with_owner, record_appended, name_then_data, named_exceeds, after_name_exceeds, refused_at_data, data_outgrows}
 use Rattle.domain_record.specs.MayCompose.RefusesRecord.{at_owner}
 use Rattle.domain_record.proofs.resource_record.Record.compose.Goals as goal
 
@@ -43,3 +43,7 @@ returns-in-Err-append_slice-clause-tight g c =
 pub returns-in-Err-compose_len_rdata-clause-tight : goal.returns-in-Err-compose_len_rdata-clause-tight
 returns-in-Err-compose_len_rdata-clause-tight g c =
     refused_at_data _ _ _ _ _ _ _ _ _ _ _ _ _ _ _ c.in_default.ensures.appends c.in_default-append_slice.ensures.ok c.octets_before_length-numbers.ensures c.rtype.ensures (omega (arith, c.in_default.ensures.capacity, c.in_default-append_slice.ensures.capacity)) c.in-Err-compose_len_rdata.ensures.why
+
+pub returns-in-Err-compose_len_rdata-clause-long : goal.returns-in-Err-compose_len_rdata-clause-long
+returns-in-Err-compose_len_rdata-clause-long g c =
+    data_outgrows _ _ _ _ _ _ _ _ _ _ _ _ _ _ _ c.in_default.ensures.appends c.in_default-append_slice.ensures.extends c.octets_before_length-numbers.ensures c.rtype.ensures c.in-Err-compose_len_rdata.ensures.long
