@@ -1,8 +1,8 @@
 -- A pair of references to octets, as a walk by hand meets it.
 --     given_up       a reference that ends says its last value
 --     two_out, two_in      the pair's two references, and back
---     Has, came, gives      what a call that returns such a pair leaves: both references, the token, and the call's own
---                           clauses
+--     Has, came, gives      what a call that returns such a pair leaves: both references, the token, and the
+--                           call's own clauses
 use mathlib.Core.Path.{◌≡◌, refl, ap, ◌∙◌}
 use mathlib.Core.List.{List, [], ◌∷◌, ◌++◌}
 use Prim.Native.Nat.{ℕ}

@@ -28,8 +28,8 @@ pub fn split_octets_mut(octets: &mut [u8]) -> Option<(&mut [u8], &mut [u8])>
 /// The wire format of the label that the octets begin with, and the octets after it, both for writing (RFC 1035, 3.1).
 /// `None` where they begin with no label.
 ///
-/// Once both parts end, the octets are the two parts as they were left (`writes_back`), also where the length octet was
-/// written over. Where there is no label, the octets stay as they are.
+/// Once both parts end, the octets are the two parts as they were left (`writes_back`), also where the length octet
+/// was written over. Where there is no label, the octets stay as they are.
 pub fn split_wire_mut(octets: &mut [u8]) -> Option<(&mut [u8], &mut [u8])>
     ensures* writes_back { sem 𝓛 (LendsWireIfFirst octets.entry result) }
     ensures begins { IfSome result

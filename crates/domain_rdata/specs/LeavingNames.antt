@@ -26,8 +26,8 @@ pub data LeavesNames {T : Type 0} (octets : T → List ℕ) (extends : T → Lis
   measured : (n : ℕ) (again : T) → Measured octets extends cuts written old n again → WrittenBehind octets extends written again n n new → LeavesNames octets extends cuts written old new
   length_moves : (n m : ℕ) (again second : T) → Measured octets extends cuts written old n again → WrittenBehind octets extends written again n m second → (m ≡ n → ⊥) → LeavesNames octets extends cuts written old new
 
--- The data has more octets than a length tells: behind a length of 0, as the target writes it there. Or it has no number
--- of octets that stays, and so many with no name compressed.
+-- The data has more octets than a length tells: behind a length of 0, as the target writes it there. Or it has no
+-- number of octets that stays, and so many with no name compressed.
 pub data Outgrows {T : Type 0} (octets : T → List ℕ) (extends : T → List ℕ → T → Type 0) (cuts : T → ℕ → T → Type 0) (written : T → T → Type 0) (uncompressed : List ℕ) (old : T) : Type 0 where
   as_written : (n : ℕ) (made : T) → WrittenBehind octets extends written old 0 n made → 65535 < n → Outgrows octets extends cuts written uncompressed old
   uncompressed_too : (n m : ℕ) (again second : T) → Measured octets extends cuts written old n again → WrittenBehind octets extends written again n m second → (m ≡ n → ⊥) → 65535 < length uncompressed → Outgrows octets extends cuts written uncompressed old

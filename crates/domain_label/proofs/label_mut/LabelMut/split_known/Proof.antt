@@ -1,5 +1,5 @@
--- `split_known` makes a label of the first of the two references that `past_first` returns. The borrow checker shows no
--- clause on how the octets end through a struct, so this proof walks the code by hand.
+-- `split_known` makes a label of the first of the two references that `past_first` returns. The borrow checker shows
+-- no clause on how the octets end through a struct, so this proof walks the code by hand.
 use mathlib.Core.Path.{◌≡◌, refl, ap}
 use native.Mathlib.Omega.{arith}
 use mathlib.Core.List.{[], ◌∷◌}
