@@ -37,7 +37,7 @@ import data_rows
 IN, CHAOS, PRIVATE = 1, 3, 65280
 A, NS, SOA, HINFO, TXT, RP, X25, SIG, GPOS, AAAA, NAPTR, CERT = 1, 2, 6, 13, 16, 17, 19, 24, 27, 28, 35, 37
 DS, RRSIG, DNSKEY, CDS, ZONEMD, SPF, URI, CAA, AVC, DLV = 43, 46, 48, 59, 63, 99, 256, 257, 258, 32769
-NXT, NSEC, OPENPGPKEY, CSYNC, SVCB, HTTPS, TSIG = 30, 47, 61, 62, 64, 65, 250
+NXT, NSEC, NSEC3, OPENPGPKEY, CSYNC, SVCB, HTTPS, TSIG = 30, 47, 50, 61, 62, 64, 65, 250
 # Types that dnspython doesn't know, and one with the same fields that it knows (RFC 1035, 3.3; RFC 2535, 3 and 4).
 SAME_FIELDS = {3: NS, 4: NS, 7: NS, 8: NS, 9: NS, 14: RP, SIG: RRSIG, 25: DNSKEY, 58: RP}
 # Types of character strings alone of which dnspython asks more, and how many these are (RFC 1035, 3.3.2; RFC 1712).
@@ -47,6 +47,8 @@ OF_UTF8 = {NAPTR: ("flags", "service", "regexp"), URI: ("target",), CAA: ("value
 # Types with a digest of which dnspython checks the length, by type, scheme and algorithm: which words these are, and
 # at which octets. Of UNCHECKED it checks none.
 CHECKED, UNCHECKED = {DS: ((2, 3),), CDS: ((2, 3),), DLV: ((2, 3),), ZONEMD: ((1, 4), (2, 5))}, 200
+# Types with bitmaps of types.
+OF_BITMAPS = (NSEC, NSEC3, CSYNC)
 # Types whose data is octets here, of which dnspython reads the fields.
 OF_OCTETS = (11, 29, 42, 45, 55, 260)
 # The mnemonics that dnspython doesn't have.
@@ -99,6 +101,14 @@ class Text(NamedTuple):
         if self.rtype not in data_rows.FIELDS or self.is_generic():
             return []
         return list(zip(data_rows.FIELDS[self.rtype], self.words() or []))
+
+    def places_of_types(self):
+        """Which of its words are types."""
+        kinds = "*" if self.is_generic() else data_rows.FIELDS.get(self.rtype, "*")
+        count = len(self.words() or [])
+        if kinds[0] == "R":
+            return range(min(count, 1))
+        return range(len(kinds) - 1, count) if kinds[-1] in "BO" else range(0)
 
     def with_words(self, words):
         """The same text with other words, None where they are the same ones."""
@@ -192,11 +202,35 @@ def without_zeros(text):
     return text.with_words(words) if fields and words != text.words() else None
 
 
-def type_by_number(text):
-    """The type that is a field by its number, where dnspython doesn't have its mnemonic."""
-    fields = text.with_kinds()
-    number = OTHER_TYPES.get(fields[0][1].decode("latin-1").upper()) if fields and fields[0][0] == "R" else None
-    return text.with_words([b"TYPE%d" % number] + text.words()[1:]) if number is not None else None
+def types_by_number(text):
+    """Types by their numbers, where dnspython doesn't have their mnemonics."""
+    words = text.words() or []
+    for place in text.places_of_types():
+        number = OTHER_TYPES.get(words[place].decode("latin-1").upper())
+        words[place] = b"TYPE%d" % number if number is not None else words[place]
+    return text.with_words(words) if words != (text.words() or []) else None
+
+
+def without_type_0(text):
+    """Bitmaps without type 0, and the octets with it."""
+    words, places = text.words() or [], text.places_of_types()
+    kept = [it for place, it in enumerate(words) if place not in places or type_of(it) != 0]
+    if text.rtype not in OF_BITMAPS or kept == words:
+        return None
+    front = text._replace(octets=b" ".join(words[:places.start]))
+    def put_back(octets):
+        at = len(front.answer())
+        if octets[at:at + 1] != b"\0":
+            return octets[:at] + b"\0\x01\x80" + octets[at:]
+        return octets[:at + 2] + bytes([octets[at + 2] | 0x80]) + octets[at + 3:]
+    return text._replace(octets=b" ".join(kept), back=(*text.back, put_back))
+
+
+def with_padding(text):
+    """A hash with padding."""
+    words = [it + b"=" * (-len(it) % 8) if kind == "X" and b"=" not in it else it for kind, it in text.with_kinds()]
+    words += (text.words() or [])[len(words):]
+    return text.with_words(words) if text.rtype == NSEC3 and words != (text.words() or []) else None
 
 
 def octets_after_mark(text):
@@ -297,18 +331,20 @@ TEXT_TURNS = (
     ("NAPTR is of every class", "RFC 3403, 4.1", in_internet),
     ("WKS, LOC, APL, IPSECKEY, HIP, AMTRELAY and A in CHAOS are octets", "RFC 3597, 5", as_octets),
     ("numbers of addresses and seconds may have zeros before them", "RFC 1035, 3.4.1; RFC 4034, 3.2", without_zeros),
-    ("mnemonics of types that dnspython doesn't have", "RFC 1035, 3.2.3; RFC 6895, 3.1", type_by_number),
+    ("mnemonics of types that dnspython doesn't have", "RFC 1035, 3.2.3; RFC 6895, 3.1", types_by_number),
     ("the length of a digest isn't checked", "RFC 4034, 5.1.4; RFC 8976, 2.2.4", other_digest),
     ("strings of HINFO, X25 and GPOS are any octets", "RFC 1035, 3.3; RFC 1712, 3", strings_alone),
     ("strings of NAPTR, URI and CAA are octets and not characters", "RFC 3403, 4.1; RFC 7553, 4.4; RFC 8659, 4.1",
      not_utf8),
     ("that a target isn't empty isn't asked", "RFC 7553, 4.4", some_target),
     ("the error of TSIG is any number", "RFC 8945, 4.2", without_error_in_text),
+    ("a hash has no padding", "RFC 5155, 3.3", with_padding),
+    ("bitmaps have any type, 0 too", "RFC 3597, 5", without_type_0),
 )
 
 
 def as_any_data(data):
-    """As data of any type, where the type has a field without a text, or the last field is empty."""
+    """As data of any type, where a field has no text, the last field is empty, or bitmaps end in zeros."""
     return data._replace(is_generic=True, back=(*data.back, bytes.rstrip)) if not data.is_generic else None
 
 
@@ -333,12 +369,17 @@ def seconds(data):
 
 
 def types_by_mnemonic(data):
-    """The type that is a field by its mnemonic, where dnspython doesn't have it."""
-    if data.rtype not in (SIG, RRSIG):
+    """Types by their mnemonics, where dnspython doesn't have these."""
+    if data.rtype not in (SIG, RRSIG, *OF_BITMAPS):
         return None
     names = {b"TYPE%d" % number: name.encode() for name, number in OTHER_TYPES.items() if name != "*"}
     names[b"NSAP_PTR"] = b"NSAP-PTR"
-    return data.changed(lambda text: re.sub(rb"^\S+", lambda it: names.get(it[0], it[0]), text))
+    return data.changed(lambda text: re.sub(rb"(?:^|(?<= ))\S+", lambda it: names.get(it[0], it[0]), text))
+
+
+def hash_without_padding(data):
+    """A hash without padding."""
+    return data.changed(lambda text: text.replace(b"=", b"")) if data.rtype == NSEC3 else None
 
 
 def certificate_numbers(data):
@@ -435,7 +476,8 @@ def one_pointer(data):
 # What dnspython takes or shows otherwise of octets: what it is, the RFC by which it is so here, and how it is said.
 DATA_TURNS = (
     *TEXT_TURNS[2:5],
-    ("data with a field without a text, or whose last field is empty, is octets", "RFC 3597, 5", as_any_data),
+    ("data with a field without a text, an empty last field, or bitmaps that end in zeros, is octets",
+     "RFC 3597, 5; RFC 4034, 4.1.2", as_any_data),
     ("a space in a name is behind a backslash", "RFC 1035, 5.1", spaces_in_names),
     ("times are shown as seconds", "RFC 4034, 3.2", seconds),
     TEXT_TURNS[6][:2] + (types_by_mnemonic,),
@@ -448,6 +490,7 @@ DATA_TURNS = (
     ("a name is read through at most 255 pointers, there through at most 16", "RFC 1035, 4.1.4", one_pointer),
     ("parameters in AliasMode are ignored", "RFC 9460, 2.4.2", service_mode),
     ("the error of TSIG is any number", "RFC 8945, 4.2", without_error),
+    ("a hash has no padding", "RFC 5155, 3.3", hash_without_padding),
 )
 
 
@@ -484,7 +527,7 @@ class Refusal(NamedTuple):
         return self.reason == self.due and self.reason in OF_DIGITS
 
 
-OF_DIGITS = ("Number", "Time", "Rtype", "Ipv4", "Ipv6", "Tag", "Base16", "CountedBase16", "Base64")
+OF_DIGITS = ("Number", "Time", "Rtype", "Ipv4", "Ipv6", "Tag", "Base16", "CountedBase16", "CountedBase32", "Base64")
 
 
 def refusal_of(row, answer):
@@ -510,6 +553,22 @@ def is_canonical(text):
         return base64.b64encode(base64.b64decode(words)) == words
     except ValueError:
         return False
+
+
+def is_hash(word):
+    """Whether a word is that of octets in base32hex without padding, in either case."""
+    upper = word.upper()
+    try:
+        return base64.b32hexencode(base64.b32hexdecode(upper + b"=" * (-len(upper) % 8))).rstrip(b"=") == upper
+    except ValueError:
+        return False
+
+
+def has_empty_hash(row):
+    """Whether data of NSEC3 has a hash without octets."""
+    data = in_message(row)
+    octets = data.message[data.begin:]
+    return row.rtype == NSEC3 and len(octets) > 4 and octets[5 + octets[4]:][:1] == b"\0"
 
 
 def is_date(word):
@@ -572,7 +631,13 @@ ONE_SIDED = (
     ("there is one string or more", "RFC 1035, 3.3.14; RFC 7208, 3.1",
      lambda it: it.reason in ("NotData", "ShortInput") and it.row.rtype in (TXT, SPF, AVC) and it.row.answer() == b""),
     ("there is one block of a bitmap or more", "RFC 4034, 4.1.2",
-     lambda it: it.reason in ("NotData", "ShortInput") and has_no_bitmap(it.row)),
+     lambda it: it.reason in ("NotData", "ShortInput") and has_no_bitmap(it.row)
+     or it.reason == "MissingWord" and it.row.rtype == NSEC),
+    ("a hash has one octet or more", "RFC 5155, 3.2",
+     lambda it: it.reason in ("NotData", "EmptyHash") and has_empty_hash(it.row)),
+    ("base32hex has no padding, no other octets, and zeros after the last bit",
+     "RFC 4648, 3.3, 3.5 and 7; RFC 5155, 3.3",
+     lambda it: it.reason == it.due == "CountedBase32" and not is_hash(it.word)),
     ("the name of NXT is read", "RFC 2535, 5.2",
      lambda it: it.reason.split("/")[0] in ("NotData", "Name") and has_no_name(it.row)),
 )

@@ -11,18 +11,20 @@ use Rattle.domain_rdata_text.specs.declared.error.Reason.TheVariants as reasons
 use Rattle.domain_rdata_text.specs.declared.form.TextForm.{TextForm}
 use Rattle.domain_rdata_text.specs.declared.form.TextForm.TheVariants as forms
 use Rattle.domain_rdata_text.specs.Addresses.{ipv4_text, read_ipv4}
+use Rattle.domain_rdata_text.specs.Base32.{base32_in_words, read_base32}
 use Rattle.domain_rdata_text.specs.Base64.{base64_in_words, read_base64, together}
-use Rattle.domain_rdata_text.specs.Forms.{text_form}
+use Rattle.domain_rdata_text.specs.Bitmaps.{bitmaps_of}
+use Rattle.domain_rdata_text.specs.Forms.{text_form, may_be_absent}
 use Rattle.domain_rdata_text.specs.Ipv6.{ipv6_text, read_ipv6}
 use Rattle.domain_rdata_text.specs.Hex.{counted_text, read_counted, hex_in_words, hex_words, generic_words, is_mark_word, read_generic}
 use Rattle.domain_rdata_text.specs.Names.{name_text, read_name}
 use Rattle.domain_rdata_text.specs.Numbers.{read_number}
 use Rattle.domain_rdata_text.specs.Outcome.{fault}
-use Rattle.domain_rdata_text.specs.Rtypes.{type_text, read_type}
+use Rattle.domain_rdata_text.specs.Rtypes.{type_text, read_type, types_words}
 use Rattle.domain_rdata_text.specs.Strings.{string_text, read_string, read_quoted}
 use Rattle.domain_rdata_text.specs.Times.{read_time}
 use Rattle.domain_rdata_text.specs.Values.{Val, val_octets, vals_octets, is_tag, ValuesAt}
-use Rattle.domain_rdata_text.specs.Values.Val.{number8, number16, number32, time, rtype, ipv4, ipv6, name, string, strings, tag, quoted, base16, base64, counted16, generic}
+use Rattle.domain_rdata_text.specs.Values.Val.{number8, number16, number32, time, rtype, ipv4, ipv6, name, string, strings, tag, quoted, base16, base64, counted16, counted32, types, optional_types, generic}
 use Rattle.domain_rdata_text.specs.Words.{WordAt, split, joined}
 
 -- the words of a field
@@ -42,6 +44,9 @@ val_words (quoted s) = string_text s ∷ []
 val_words (base16 os) = hex_in_words os
 val_words (base64 os) = base64_in_words os
 val_words (counted16 os) = counted_text os ∷ []
+val_words (counted32 os) = base32_in_words os
+val_words (types ts) = map type_text ts
+val_words (optional_types ts) = map type_text ts
 val_words (generic os) = []
 
 -- whether a list has a member
@@ -53,7 +58,7 @@ abbrev pub is_nil : {A : Type 0} → List A → Bool
 is_nil [] = true
 is_nil (x ∷ xs) = false
 
--- whether the field has a text of its own, which isn't empty
+-- whether the field has a text of its own, which isn't empty unless the field may be
 abbrev pub has_text : Val → Bool
 has_text (number8 n) = true
 has_text (number16 n) = true
@@ -70,6 +75,9 @@ has_text (quoted s) = true
 has_text (base16 os) = is_some_list os
 has_text (base64 os) = is_some_list os
 has_text (counted16 os) = true
+has_text (counted32 os) = is_some_list os
+has_text (types ts) = is_some_list ts
+has_text (optional_types ts) = true
 has_text (generic os) = false
 
 -- whether it takes all words that are left
@@ -89,6 +97,9 @@ takes_all (quoted s) = false
 takes_all (base16 os) = true
 takes_all (base64 os) = true
 takes_all (counted16 os) = false
+takes_all (counted32 os) = false
+takes_all (types ts) = true
+takes_all (optional_types ts) = true
 takes_all (generic os) = false
 
 -- Whether data is written field by field: each has a text, and none but the last takes all words that are left.
@@ -133,6 +144,11 @@ abbrev pub all : Result (List ℕ) Fault → Result SoFar Fault
 all (Err why) = Err why
 all (Ok os) = Ok (so_far os [])
 
+-- octets, and the bitmaps of types that were read
+abbrev pub with_bitmaps : List ℕ → Result (List ℕ) Fault → Result (List ℕ) Fault
+with_bitmaps os (Err why) = Err why
+with_bitmaps os (Ok ts) = Ok (os ++ bitmaps_of ts)
+
 -- octets that were read of the word at an offset, or the fault that it is no character string
 abbrev pub string_or_fault : ℕ → Option (List ℕ) → Result (List ℕ) Fault
 string_or_fault offset None = Err (fault offset reasons.CharString)
@@ -161,11 +177,14 @@ take_words forms.QuotedText os w ws = one reasons.QuotedText w ws (with_octets q
 take_words forms.Base16 os w ws = all (hex_words (Ok os) (w ∷ ws))
 take_words forms.Base64 os w ws = one reasons.Base64 w [] (with_octets base64 os (read_base64 (together (w ∷ ws))))
 take_words forms.CountedBase16 os w ws = one reasons.CountedBase16 w ws (with_octets counted16 os (read_counted w.octets))
+take_words forms.CountedBase32 os w ws = one reasons.CountedBase32 w ws (with_octets counted32 os (read_base32 w.octets))
+take_words forms.Types os w ws = all (with_bitmaps os (types_words (Ok []) (w ∷ ws)))
+take_words forms.OptionalTypes os w ws = all (with_bitmaps os (types_words (Ok []) (w ∷ ws)))
 take_words forms.Generic os w ws = Err (fault w.begin reasons.OnlyGeneric)
 
--- the same, in a text of n octets, where a word may be missing
+-- the same, in a text of n octets, where a word may be missing, as it may of a field that is absent
 abbrev pub take_field : ℕ → TextForm → List ℕ → List WordAt → Result SoFar Fault
-take_field n form os [] = Err (fault n reasons.MissingWord)
+take_field n form os [] = if may_be_absent form then Ok (so_far os []) else Err (fault n reasons.MissingWord)
 take_field n form os (w ∷ ws) = take_words form os w ws
 
 -- the octets that were read, where no word is left

@@ -15,11 +15,12 @@ use Rattle.domain_rdata_text.specs.declared.value.Open.{Open}
 use Rattle.domain_rdata_text.specs.declared.value.Open.TheVariants.{Between, Inside}
 use Rattle.domain_rdata_text.specs.declared.value.Value.{Value}
 use Rattle.domain_rdata_text.specs.declared.value.Value.TheVariants as held
+use Rattle.domain_rdata_text.specs.Bitmaps.{bitmaps_of, types_of_bitmaps}
 use Rattle.domain_rdata_text.specs.Forms.{text_form}
 use Rattle.domain_rdata_text.specs.Words.{lists}
 
--- What a field holds: a number; a time; a type; the octets of an address; a name by its labels before the root; the
--- octets of a string, of several, of a tag or of what is between quotes; or octets that are all of the field.
+-- What a field holds: a number; a time; a type, or several; the octets of an address; a name by its labels before the
+-- root; the octets of a string, of several, of a tag or of what is between quotes; or octets that are all of the field.
 pub data Val : Type 0 where
   number8 : ℕ → Val
   number16 : ℕ → Val
@@ -36,6 +37,9 @@ pub data Val : Type 0 where
   base16 : List ℕ → Val
   base64 : List ℕ → Val
   counted16 : List ℕ → Val
+  counted32 : List ℕ → Val
+  types : List ℕ → Val
+  optional_types : List ℕ → Val
   generic : List ℕ → Val
 
 -- what a value of the program is
@@ -55,6 +59,9 @@ val_of (held.QuotedText s) = quoted s.items
 val_of (held.Base16 os) = base16 os.items
 val_of (held.Base64 os) = base64 os.items
 val_of (held.CountedBase16 os) = counted16 os.items
+val_of (held.CountedBase32 os) = counted32 os.items
+val_of (held.Types ts) = types ts.items
+val_of (held.OptionalTypes ts) = optional_types ts.items
 val_of (held.Generic os) = generic os.items
 
 -- what several fields of the program hold
@@ -78,6 +85,9 @@ form_of_val (quoted s) = forms.QuotedText
 form_of_val (base16 os) = forms.Base16
 form_of_val (base64 os) = forms.Base64
 form_of_val (counted16 os) = forms.CountedBase16
+form_of_val (counted32 os) = forms.CountedBase32
+form_of_val (types ts) = forms.Types
+form_of_val (optional_types ts) = forms.OptionalTypes
 form_of_val (generic os) = forms.Generic
 
 -- octets behind one that tells how many they are (RFC 1035, 3.3)
@@ -101,6 +111,9 @@ val_octets (quoted s) = s
 val_octets (base16 os) = os
 val_octets (base64 os) = os
 val_octets (counted16 os) = counted os
+val_octets (counted32 os) = counted os
+val_octets (types ts) = bitmaps_of ts
+val_octets (optional_types ts) = bitmaps_of ts
 val_octets (generic os) = os
 
 -- the octets of fields
@@ -157,6 +170,19 @@ abbrev pub counted16_in : List ℕ → Val
 counted16_in [] = generic []
 counted16_in (n ∷ s) = if length s == n then counted16 s else generic (n ∷ s)
 
+abbrev pub counted32_in : List ℕ → Val
+counted32_in [] = generic []
+counted32_in (n ∷ s) = if length s == n then counted32 s else generic (n ∷ s)
+
+-- the types of bitmaps, or else octets that are no types' bitmaps
+abbrev pub types_or : List ℕ → Option (List ℕ) → Val
+types_or os None = generic os
+types_or os (Some ts) = types ts
+
+abbrev pub optional_types_or : List ℕ → Option (List ℕ) → Val
+optional_types_or os None = generic os
+optional_types_or os (Some ts) = optional_types ts
+
 -- Character strings after strings. Between them an octet tells how many octets the next has; inside of one some were
 -- read, and k are to come.
 abbrev pub strings_in : List (List ℕ) → List ℕ → Open → List ℕ → Option (List (List ℕ))
@@ -201,6 +227,9 @@ val_in forms.QuotedText os = quoted os
 val_in forms.Base16 os = base16 os
 val_in forms.Base64 os = base64 os
 val_in forms.CountedBase16 os = counted16_in os
+val_in forms.CountedBase32 os = counted32_in os
+val_in forms.Types os = types_or os (types_of_bitmaps os)
+val_in forms.OptionalTypes os = optional_types_or os (types_of_bitmaps os)
 val_in forms.Generic os = generic os
 
 -- The field of this kind at p, which ends before e, holds this: a name, or what its octets say.
