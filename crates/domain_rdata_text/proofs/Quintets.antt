@@ -1,5 +1,5 @@
 -- Octets in base32hex are read back.
-use Rattle.std.proofs.Common.{◌≡◌, ◌∙◌, ℕ, ◌+◌, ◌-◌, ◌*◌, ◌/◌, ◌%◌, ◌<◌, ◌≤◌, true, false, ◌==◌, cond, nat_le, List, [], ◌∷◌, ◌++◌, length, Some, None, refl, sym, ap, append_assoc, append-nil, arith}
+use Rattle.std.proofs.Common.{◌≡◌, ◌∙◌, ℕ, ◌+◌, ◌*◌, ◌/◌, ◌%◌, ◌<◌, ◌≤◌, true, false, ◌==◌, cond, nat_le, List, [], ◌∷◌, ◌++◌, length, Some, None, refl, sym, ap, append_assoc, append-nil, arith}
 use Rattle.std.proofs.lemmas.Bool.{agree_below_at, cond-true, eq-eqb, eqb-true, le-leb}
 use Rattle.domain_rdata_text.specs.declared.base32.High.{High}
 use Rattle.domain_rdata_text.specs.declared.base32.High.TheVariants as highs
