@@ -80,6 +80,9 @@ PLACES = [
      b"\x05louie\x07trantor\x03umd\x03edu\x00\x04LAM1\x06people\x03umd\x03edu\x00"),
     (18, b"1 bigbird.toaster.com.", b"\x00\x01\x07bigbird\x07toaster\x03com\x00"),
     (19, b'"311061700956"', b"\x0c311061700956"),
+    (20, b'"150862028003217" "004"', b"\x0f150862028003217\x03004"),
+    (20, b'"150862028003217"', b"\x0f150862028003217"),
+    (20, b'"" ""', b"\x00\x00"),
     (21, b"10 NET.Prime.COM.", b"\x00\n\x03NET\x05Prime\x03COM\x00"),
     (26, b"50 ab.net2.it. O-ab.PRMD-net2.ADMDb.C-it.",
      b"\x002\x02ab\x04net2\x02it\x00\x04O-ab\tPRMD-net2\x05ADMDb\x04C-it\x00"),
@@ -178,7 +181,6 @@ SIGNATURES = [
 GENERIC = [
     (10, b"\\# 0", b""),
     (10, b"\\# 3 000aff", b"\x00\n\xff"),
-    (20, b"\\# 20 0f31353038363230323830303332313703303034", b"\x0f150862028003217\x03004"),
     (43, b"\\# 4 ec450501", b"\xecE\x05\x01"),
     (44, b"\\# 2 0201", b"\x02\x01"),
     (52, b"\\# 3 000001", b"\x00\x00\x01"),
@@ -242,6 +244,9 @@ READINGS = [
     (16, b'"a;b" ; c\n"(d)"', b"\x03a;b\x03(d)"),
     (16, b'"a\nb"', b"\x03a\nb"),
     (16, b'"\\a\\098\\"" \\;\\(', b'\x03ab"\x02;('),
+    (20, b"150862028003217 004", b"\x0f150862028003217\x03004"),
+    (20, b"150862028003217 ; no subaddress", b"\x0f150862028003217"),
+    (20, b"\\# 20 0f31353038363230323830303332313703303034", b"\x0f150862028003217\x03004"),
     (15, b"00010\n\tmail. ; first\n", b"\x00\n\x04mail\x00"),
     (6, b"a. b. ; names\n 1 ; serial\n 2\r\n3\t4 5",
      b"\x01a\x00\x01b\x00\x00\x00\x00\x01\x00\x00\x00\x02\x00\x00\x00\x03\x00\x00\x00\x04\x00\x00\x00\x05"),
@@ -357,7 +362,9 @@ FAULTS = [
     (2, b"\\# 8 03636f6d00016100", 0, "NotData"),
     (257, b"\\# 5 0003612d62", 0, "NotData"),
     (62347, b"00", 0, "OnlyGeneric"),
-    (20, b"150862028003217 004", 16, "OnlyGeneric"),
+    (20, b"", 0, "MissingWord"),
+    (20, b"150862028003217 004 5", 20, "ExtraWord"),
+    (20, b'150862028003217 "00"4', 16, "CharString"),
     (108, b"00-00-5e-00-53-2a", 0, "OnlyGeneric"),
     (15, b"65536 mail", 0, "Number"),
     (15, b"x mail. (", 8, "Parenthesis"),
@@ -441,22 +448,23 @@ SIGNATURE_FAULTS = [
 ]
 
 # The fields of data of each type by letters of KINDS, in class IN: all but those of OF_OCTETS have a form of text.
-# RFC 1035, 3.3 and 3.4. 1183 (RP, AFSDB, X25, RT). 2535 (SIG, KEY). 2163 (PX). 1712 (GPOS). 3596 (AAAA). 2782 (SRV).
-# 3403 (NAPTR). 2230 (KX). 4398 (CERT). 6672 (DNAME). 4034 (DS, RRSIG, NSEC, DNSKEY). 4255 (SSHFP). 4701 (DHCID). 5155
-# (NSEC3, NSEC3PARAM). 6698 (TLSA). 8162 (SMIMEA). 7344 (CDS, CDNSKEY). 7929 (OPENPGPKEY). 7477 (CSYNC). 8976 (ZONEMD).
-# 7208 (SPF). 6742 (L32, LP). 7553 (URI). 8659 (CAA). 4431 (DLV). TALINK and AVC are of IANA's registry.
+# RFC 1035, 3.3 and 3.4. 1183 (RP, AFSDB, X25, ISDN, RT). 2535 (SIG, KEY). 2163 (PX). 1712 (GPOS). 3596 (AAAA). 2782
+# (SRV). 3403 (NAPTR). 2230 (KX). 4398 (CERT). 6672 (DNAME). 4034 (DS, RRSIG, NSEC, DNSKEY). 4255 (SSHFP). 4701 (DHCID).
+# 5155 (NSEC3, NSEC3PARAM). 6698 (TLSA). 8162 (SMIMEA). 7344 (CDS, CDNSKEY). 7929 (OPENPGPKEY). 7477 (CSYNC). 8976
+# (ZONEMD). 7208 (SPF). 6742 (L32, LP). 7553 (URI). 8659 (CAA). 4431 (DLV). TALINK and AVC are of IANA's registry.
 FIELDS = {
     1: "a", 2: "n", 3: "n", 4: "n", 5: "n", 6: "nn44444", 7: "n", 8: "n", 9: "n", 12: "n", 13: "ss", 14: "nn",
-    15: "2n", 16: "S", 17: "nn", 18: "2n", 19: "s", 21: "2n", 24: "R114TT2nb", 25: "211b", 26: "2nn", 27: "sss",
-    28: "A", 33: "222n", 35: "22sssn", 36: "2n", 37: "221b", 39: "n", 43: "211h", 44: "11h", 46: "R114TT2nb",
-    47: "nB", 48: "211b", 49: "b", 50: "112HXO", 51: "112H", 52: "111h", 53: "111h", 58: "nn", 59: "211h", 60: "211b",
-    61: "b", 62: "42O", 63: "411h", 99: "S", 105: "2a", 107: "2n", 256: "22q", 257: "1tq", 258: "S", 32769: "211h",
+    15: "2n", 16: "S", 17: "nn", 18: "2n", 19: "s", 20: "so", 21: "2n", 24: "R114TT2nb", 25: "211b", 26: "2nn",
+    27: "sss", 28: "A", 33: "222n", 35: "22sssn", 36: "2n", 37: "221b", 39: "n", 43: "211h", 44: "11h",
+    46: "R114TT2nb", 47: "nB", 48: "211b", 49: "b", 50: "112HXO", 51: "112H", 52: "111h", 53: "111h", 58: "nn",
+    59: "211h", 60: "211b", 61: "b", 62: "42O", 63: "411h", 99: "S", 105: "2a", 107: "2n", 256: "22q", 257: "1tq",
+    258: "S", 32769: "211h",
 }
-# Types whose data is shown after \# alone. RFC 1035 (NULL, WKS), 1183 (ISDN), 1706 (NSAP, NSAP-PTR), 1876 (LOC). 2535
+# Types whose data is shown after \# alone. RFC 1035 (NULL, WKS), 1706 (NSAP, NSAP-PTR), 1876 (LOC). 2535
 # (NXT), 3123 (APL), 4025 (IPSECKEY), 8005 (HIP), 9460 (SVCB, HTTPS), 6742 (NID, L64), 7043 (EUI48, EUI64). 2930 (TKEY),
 # 8945 (TSIG), 8777 (AMTRELAY), and one for private use.
 OF_OCTETS = {
-    10: "*", 11: "*", 20: "so", 22: "*", 29: "*", 30: "n*", 42: "*", 45: "*", 55: "*", 64: "2nP", 65: "2nP", 104: "28",
+    10: "*", 11: "*", 22: "*", 29: "*", 30: "n*", 42: "*", 45: "*", 55: "*", 64: "2nP", 65: "2nP", 104: "28",
     106: "28", 108: "6", 109: "8", 249: "n4422KK", 250: "n62K22K", 260: "*", 65280: "*",
 }
 # What a field of each kind is: a text and its octets, and texts that are none, after their fault.
@@ -473,6 +481,7 @@ KINDS = {
     "n": ((b"ns.Example.", b"\x02ns\x07Example\0"), "Name",
           (b"ns", b"a..b.", b'"a."', b"@", b"..", b"\\256.", b"a\\.")),
     "s": ((b'"a b"', b"\x03a b"), "CharString", (b'"a"b', b'a"b"', b"\\256", b'"\\25"', b"a" * 256)),
+    "o": ((b'"004"', b"\x03004"), "CharString", (b'"a"b', b'a"b"', b"\\256", b'"\\25"', b"a" * 256)),
     "S": ((b'"a b" "" "c"', b"\x03a b\0\x01c"), "CharString",
           (b'"a"b', b'a"b"', b"\\256", b'"\\25"', b"\\097" * 256)),
     "t": ((b"issue", b"\x05issue"), "Tag", (b"is-sue", b'"issue"', b"issu\\101", b"a" * 256, b'""')),
@@ -487,7 +496,6 @@ KINDS = {
     "O": ((b"NS", b"\0\x01\x20"), "Rtype", (b"TYPE65536", b"NONESUCH", b"1", b'"A"', b"\\A", b"TYPE", b"A.", b"-")),
     "6": ((None, b"\x01\x02\x03\x04\x05\x06"), None, ()),
     "8": ((None, b"\x01\x02\x03\x04\x05\x06\x07\x08"), None, ()),
-    "o": ((None, b"\x03004"), None, ()),
     "K": ((None, b"\0\x02ab"), None, ()),
     "P": ((None, b"\0\x01\0\x03\x02h2\0\x03\0\x02\x01\xbb"), None, ()),
     "*": ((None, b"\x01\x02\x03"), None, ()),
@@ -599,7 +607,7 @@ def word_rows(rtype, kinds):
         before = b" ".join(texts[:place])
         at = len(before) + 1 if place else 0
         fault = (len(before), "MissingWord") if place == len(kinds) - 1 else None
-        octets = octets_of(fields[:place]) if kind == "O" else None
+        octets = octets_of(fields[:place]) if kind in "oO" else None
         yield read(rtype, b" ".join(texts[:place] + texts[place + 1:]), octets, fault=fault)
         yield read(rtype, b" ".join(texts[:place] + 2 * texts[place:place + 1] + texts[place + 1:]))
         for wrong in KINDS[kind][2]:
@@ -1245,9 +1253,6 @@ def drawn_plain(draw, kind):
     """A field of a kind without a text."""
     if kind in "68":
         return draw.randbytes(int(kind))
-    if kind == "o":
-        octets = draw.randbytes(draw.choice([1, 5, 20]))
-        return bytes([len(octets)]) + octets
     if kind == "K":
         octets = draw.randbytes(draw.choice([0, 1, 16]))
         return struct.pack("!H", len(octets)) + octets
@@ -1275,8 +1280,10 @@ def drawn_field(draw, kind):
         return address_text(groups), struct.pack("!8H", *groups)
     if kind == "n":
         return drawn_name(draw)
-    if kind in "sS":
-        count = 1 if kind == "s" else draw.choice([1, 1, 2, 3])
+    if kind == "o" and draw.random() < 0.3:
+        return b"", b""
+    if kind in "soS":
+        count = 1 if kind in "so" else draw.choice([1, 1, 2, 3])
         strings = [drawn_octets(draw, draw.choice([4, 12, 40])) for _ in range(count)]
         return b" ".join(map(string_field, strings)), wire(strings)
     if kind == "t":
@@ -1350,7 +1357,7 @@ def spelled(draw, kind, text, octets):
         return (text[:at] + b" " + text[at:]).strip()
     if kind == "n" and octets != b"\0" and draw.random() < 0.6:
         return spelled_name(draw, octets)
-    if kind == "s" and draw.random() < 0.6:
+    if kind in "so" and octets and draw.random() < 0.6:
         return spelled_string(draw, octets[1:])
     return text
 

@@ -35,13 +35,14 @@ sys.dont_write_bytecode = True
 import data_rows
 
 IN, CHAOS, PRIVATE = 1, 3, 65280
-A, NS, SOA, HINFO, TXT, RP, X25, SIG, GPOS, AAAA, NAPTR, CERT = 1, 2, 6, 13, 16, 17, 19, 24, 27, 28, 35, 37
+A, NS, SOA, HINFO, TXT, RP, X25, ISDN, SIG, GPOS, AAAA, NAPTR, CERT = 1, 2, 6, 13, 16, 17, 19, 20, 24, 27, 28, 35, 37
 DS, RRSIG, DNSKEY, CDS, ZONEMD, SPF, URI, CAA, AVC, DLV = 43, 46, 48, 59, 63, 99, 256, 257, 258, 32769
 NXT, NSEC, NSEC3, OPENPGPKEY, CSYNC, SVCB, HTTPS, TSIG = 30, 47, 50, 61, 62, 64, 65, 250
 # Types that dnspython doesn't know, and one with the same fields that it knows (RFC 1035, 3.3; RFC 2535, 3 and 4).
 SAME_FIELDS = {3: NS, 4: NS, 7: NS, 8: NS, 9: NS, 14: RP, SIG: RRSIG, 25: DNSKEY, 58: RP}
-# Types of character strings alone of which dnspython asks more, and how many these are (RFC 1035, 3.3.2; RFC 1712).
-OF_STRINGS = {HINFO: 2, X25: 1, GPOS: 3}
+# Types of character strings alone of which dnspython asks more, and how many these are (RFC 1035, 3.3.2; RFC 1183, 3;
+# RFC 1712).
+OF_STRINGS = {HINFO: (2,), X25: (1,), ISDN: (1, 2), GPOS: (3,)}
 # The strings of other types that dnspython takes for UTF-8, as it names them.
 OF_UTF8 = {NAPTR: ("flags", "service", "regexp"), URI: ("target",), CAA: ("value",)}
 # Types with a digest of which dnspython checks the length, by type, scheme and algorithm: which words these are, and
@@ -274,7 +275,7 @@ def strings_alone(text):
         count = count_of_strings(octets_after_mark(text) or b"")
     else:
         count = len(text.words() or [])
-    return text._replace(rtype=TXT) if count == OF_STRINGS.get(text.rtype) else None
+    return text._replace(rtype=TXT) if count in OF_STRINGS.get(text.rtype, ()) else None
 
 
 def count_of_strings(octets):
@@ -323,6 +324,15 @@ def without_error_in_text(text):
     return text._replace(octets=b" ".join(words), back=text.back + back)
 
 
+def service_mode_in_text(text):
+    """Parameters after a priority of 0 as after one of 1, and the octets with 0."""
+    octets = octets_after_mark(text) if text.rtype in (SVCB, HTTPS) and text.is_generic() else None
+    if not octets or octets[:2] != b"\0\0":
+        return None
+    said = (b"\0\x01" + octets[2:]).hex().encode()
+    return text._replace(octets=b" ".join(text.words()[:2] + [said]), back=(*text.back, put_in(1, 0)))
+
+
 # What dnspython takes otherwise in texts: what it is, the RFC by which it is so here, and how it is said to dnspython.
 TEXT_TURNS = (
     ("ends of lines and carriage returns are white space", "RFC 1035, 5.1", spelled),
@@ -333,11 +343,12 @@ TEXT_TURNS = (
     ("numbers of addresses and seconds may have zeros before them", "RFC 1035, 3.4.1; RFC 4034, 3.2", without_zeros),
     ("mnemonics of types that dnspython doesn't have", "RFC 1035, 3.2.3; RFC 6895, 3.1", types_by_number),
     ("the length of a digest isn't checked", "RFC 4034, 5.1.4; RFC 8976, 2.2.4", other_digest),
-    ("strings of HINFO, X25 and GPOS are any octets", "RFC 1035, 3.3; RFC 1712, 3", strings_alone),
+    ("strings of HINFO, X25, ISDN and GPOS are any octets", "RFC 1035, 3.3; RFC 1183, 3; RFC 1712, 3", strings_alone),
     ("strings of NAPTR, URI and CAA are octets and not characters", "RFC 3403, 4.1; RFC 7553, 4.4; RFC 8659, 4.1",
      not_utf8),
     ("that a target isn't empty isn't asked", "RFC 7553, 4.4", some_target),
     ("the error of TSIG is any number", "RFC 8945, 4.2", without_error_in_text),
+    ("parameters in AliasMode are ignored", "RFC 9460, 2.4.2", service_mode_in_text),
     ("a hash has no padding", "RFC 5155, 3.3", with_padding),
     ("bitmaps have any type, 0 too", "RFC 3597, 5", without_type_0),
 )
@@ -419,7 +430,7 @@ def other_digest_of_data(data):
 def strings_alone_of_data(data):
     """The same as of TXT, where the strings are as many as those of the type."""
     count = count_of_strings(data.message[data.begin:])
-    return data._replace(rtype=TXT) if count == OF_STRINGS.get(data.rtype) else None
+    return data._replace(rtype=TXT) if count in OF_STRINGS.get(data.rtype, ()) else None
 
 
 def target_as_value(data):
@@ -579,6 +590,12 @@ def is_date(word):
         return False
 
 
+def is_refused_on_one_line(row):
+    """Whether a text has several lines, and is refused when it has one."""
+    joined = re.sub(rb"(?:;[^\n]*)?\n", b" ", row.octets)
+    return joined != row.octets and row._replace(octets=joined).answer() is None
+
+
 def in_message(row):
     """The data of a row, as in a message where it is after the mark."""
     return row if isinstance(row, Data) else Data(row.rtype, row.rclass, octets_after_mark(row) or b"", 0)
@@ -604,6 +621,8 @@ def has_no_name(row):
 ONE_SIDED = (
     ("the lines of an entry are joined before: a parenthesis is refused", "RFC 1035, 5.1",
      lambda it: it.reason == "Parenthesis" and it.rest[:1] in (b"(", b")")),
+    ("a text is read past the ends of its lines", "RFC 1035, 5.1",
+     lambda it: it.reason in ("OpenQuote", "LoneBackslash") and is_refused_on_one_line(it.row)),
     ("data of this type is read after \\# alone", "RFC 3597, 5",
      lambda it: it.reason == "OnlyGeneric" and not it.row.is_generic()
      and (it.row.rtype in data_rows.OF_OCTETS or (it.row.rtype, it.row.rclass) == (A, CHAOS))),

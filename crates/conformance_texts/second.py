@@ -353,6 +353,7 @@ WORD_FORMS = {
     "Ipv6": (ipv6_octets, "Ipv6"),
     "Name": (name_octets, "Name"),
     "CharString": (string_octets, "CharString"),
+    "OptionalString": (string_octets, "CharString"),
     "Tag": (tag_octets, "Tag"),
     "QuotedText": (text_octets, "QuotedText"),
     "CountedBase16": (salt_octets, "CountedBase16"),
@@ -415,7 +416,7 @@ END_FORMS = {
     "OptionalTypeBitmaps": read_types,
 }
 # Kinds of which a field may have no word.
-ABSENT = ("OptionalTypeBitmaps",)
+ABSENT = ("OptionalString", "OptionalTypeBitmaps")
 
 
 def read_field(kind, words):
@@ -712,8 +713,8 @@ def show_types(octets):
 SHOWN = {
     "Number8": show_number, "Number16": show_number, "Number32": show_number, "Ttl": show_number,
     "Serial": show_number, "Time": show_number, "Rtype": show_rtype, "Ipv4": show_ipv4, "Ipv6": show_ipv6,
-    "Name": show_name, "CharString": show_strings, "CharStrings": show_strings, "QuotedText": show_text,
-    "Tag": lambda octets: octets[1:], "Base16": binascii.hexlify, "Base64": base64.b64encode,
+    "Name": show_name, "CharString": show_strings, "OptionalString": show_strings, "CharStrings": show_strings,
+    "QuotedText": show_text, "Tag": lambda octets: octets[1:], "Base16": binascii.hexlify, "Base64": base64.b64encode,
     "CountedBase16": lambda octets: binascii.hexlify(octets[1:]) or b"-", "CountedBase32": show_hash,
     "TypeBitmaps": show_types, "OptionalTypeBitmaps": show_types,
 }

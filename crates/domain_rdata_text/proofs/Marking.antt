@@ -1,5 +1,5 @@
 -- No word of a field is the mark of data of any type.
-use Rattle.std.proofs.Common.{◌≡◌, ◌∙◌, ℕ, ◌+◌, ◌/◌, ◌%◌, ◌<◌, ◌^◌, Bool, true, false, ◌==◌, ◌||◌, List, [], ◌∷◌, ◌++◌, length, refl, ap, arith}
+use Rattle.std.proofs.Common.{◌≡◌, ◌∙◌, ℕ, ◌+◌, ◌/◌, ◌%◌, ◌<◌, ◌^◌, Bool, true, false, ◌==◌, ◌||◌, List, [], ◌∷◌, ◌++◌, length, Some, None, refl, ap, arith}
 use mathlib.Core.Bool.{not}
 use Rattle.std.specs.Char.{is_ascii_alphanumeric}
 use Rattle.std.specs.List.{AllByRecursion, flat_map, list_all}
@@ -19,7 +19,7 @@ use Rattle.domain_rdata_text.specs.Strings.{quoted_octet, string_text}
 use Rattle.domain_rdata_text.specs.Symbols.{octet_text}
 use Rattle.domain_rdata_text.specs.Texts.{val_words, starts_mark, has_text, takes_all}
 use Rattle.domain_rdata_text.specs.Values.{Val, is_tag}
-use Rattle.domain_rdata_text.specs.Values.Val.{number8, number16, number32, time, rtype, ipv4, ipv6, name, string, strings, tag, quoted, base16, base64, counted16, counted32, types, optional_types, generic}
+use Rattle.domain_rdata_text.specs.Values.Val.{number8, number16, number32, time, rtype, ipv4, ipv6, name, string, optional_string, strings, tag, quoted, base16, base64, counted16, counted32, types, optional_types, generic}
 use Rattle.domain_rdata_text.proofs.Colons.{ipv6_begins}
 use Rattle.domain_rdata_text.proofs.Holding.{IsVal}
 use Rattle.domain_rdata_text.proofs.Quintets.{digit_no_slash}
@@ -96,6 +96,8 @@ first_no_mark n (ipv4 os) us h t l = no_mark (ipv4_text os) (ipv4_plain os h.0 h
 first_no_mark n (ipv6 os) us h t l = no_mark (ipv6_text os) (ipv6_begins os h.0 h.1)
 first_no_mark n (name ls) us h t l = name_no_mark ls h.0 h.1
 first_no_mark n (string s) us h t l = string_no_mark s
+first_no_mark n (optional_string None) us h t l = ap (λ (x : List (List ℕ)). starts_mark (placed n x)) (l refl)
+first_no_mark n (optional_string (Some s)) us h t l = string_no_mark s
 first_no_mark n (strings []) us h t l = absurd (false≢true t)
 first_no_mark n (strings (s ∷ ss)) us h t l = string_no_mark s
 first_no_mark n (tag s) us h t l = tag_no_mark s h.1 h.2

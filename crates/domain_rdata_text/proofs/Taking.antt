@@ -22,7 +22,7 @@ use Rattle.domain_rdata_text.specs.Strings.{string_text, only_short, read_string
 use Rattle.domain_rdata_text.specs.Texts.{val_words, has_text, takes_all, read_tag, so_far, with_octets, with_bitmaps, one, all, string_or_fault, strings_words, take_field}
 use Rattle.domain_rdata_text.specs.Times.{read_time}
 use Rattle.domain_rdata_text.specs.Values.{Val, form_of_val, counted, val_octets, is_tag}
-use Rattle.domain_rdata_text.specs.Values.Val.{number8, number16, number32, time, rtype, ipv4, ipv6, name, string, strings, tag, quoted, base16, base64, counted16, counted32, types, optional_types, generic}
+use Rattle.domain_rdata_text.specs.Values.Val.{number8, number16, number32, time, rtype, ipv4, ipv6, name, string, optional_string, strings, tag, quoted, base16, base64, counted16, counted32, types, optional_types, generic}
 use Rattle.domain_rdata_text.specs.Words.{WordAt, word}
 use Rattle.domain_rdata_text.proofs.Colons.{ipv6_back, bare_ipv6, ipv6_some}
 use Rattle.domain_rdata_text.proofs.Digits.{hex_back, bare_hex}
@@ -96,6 +96,8 @@ are_words (ipv4 os) h = ((bare_ipv4 os h.1, ipv4_some os h.0 h.1), tt)
 are_words (ipv6 os) h = ((bare_ipv6 os h.1, ipv6_some os h.0 h.1), tt)
 are_words (name ls) h = ((bare_name ls h.1, name_some ls), tt)
 are_words (string s) h = (string_word s h.1, tt)
+are_words (optional_string None) h = tt
+are_words (optional_string (Some s)) h = (string_word s h.1, tt)
 are_words (strings ss) h = strings_are_words ss h
 are_words (tag s) h = (tag_word s h.1 h.2, tt)
 are_words (quoted s) h = (string_word s h, tt)
@@ -175,6 +177,13 @@ taken_back n len (ipv6 o) us h t l os =
 taken_back n len (name ls) us h t l os =
     one_back name reasons.Name os (word (ends_before n us - length (name_text ls)) (name_text ls)) (placed n us) (read_name (name_text ls)) ls (name_back ls h.0 h.1)
 taken_back n len (string s) us h t l os =
+    one_back string reasons.CharString os (word (ends_before n us - length (string_text s)) (string_text s)) (placed n us) (read_string (string_text s)) s (string_back s h.0 h.1)
+taken_back n len (optional_string None) us h t l os =
+    let none = l refl in
+    ap (λ (y : List (List ℕ)). take_field len (form_of_val (optional_string None)) os (placed n y)) none
+    ∙ (ap (λ (y : List ℕ). Ok (so_far y [])) (sym (append-nil os))
+    ∙ ap (λ (y : List (List ℕ)). Ok (so_far (os ++ []) (placed n y))) (sym none))
+taken_back n len (optional_string (Some s)) us h t l os =
     one_back string reasons.CharString os (word (ends_before n us - length (string_text s)) (string_text s)) (placed n us) (read_string (string_text s)) s (string_back s h.0 h.1)
 taken_back n len (strings []) us h t l os = absurd (false≢true t)
 taken_back n len (strings (s ∷ ss)) us h t l os =

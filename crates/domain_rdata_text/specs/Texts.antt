@@ -24,8 +24,13 @@ use Rattle.domain_rdata_text.specs.Rtypes.{type_text, read_type, types_words}
 use Rattle.domain_rdata_text.specs.Strings.{string_text, read_string, read_quoted}
 use Rattle.domain_rdata_text.specs.Times.{read_time}
 use Rattle.domain_rdata_text.specs.Values.{Val, val_octets, vals_octets, is_tag, ValuesAt}
-use Rattle.domain_rdata_text.specs.Values.Val.{number8, number16, number32, time, rtype, ipv4, ipv6, name, string, strings, tag, quoted, base16, base64, counted16, counted32, types, optional_types, generic}
+use Rattle.domain_rdata_text.specs.Values.Val.{number8, number16, number32, time, rtype, ipv4, ipv6, name, string, optional_string, strings, tag, quoted, base16, base64, counted16, counted32, types, optional_types, generic}
 use Rattle.domain_rdata_text.specs.Words.{WordAt, split, joined}
+
+-- the words of a string, where there is one
+abbrev pub optional_words : Option (List ℕ) → List (List ℕ)
+optional_words None = []
+optional_words (Some s) = string_text s ∷ []
 
 -- the words of a field
 abbrev pub val_words : Val → List (List ℕ)
@@ -38,6 +43,7 @@ val_words (ipv4 os) = ipv4_text os ∷ []
 val_words (ipv6 os) = ipv6_text os ∷ []
 val_words (name ls) = name_text ls ∷ []
 val_words (string s) = string_text s ∷ []
+val_words (optional_string o) = optional_words o
 val_words (strings ss) = map string_text ss
 val_words (tag s) = s ∷ []
 val_words (quoted s) = string_text s ∷ []
@@ -69,6 +75,7 @@ has_text (ipv4 os) = true
 has_text (ipv6 os) = true
 has_text (name ls) = true
 has_text (string s) = true
+has_text (optional_string o) = true
 has_text (strings ss) = is_some_list ss
 has_text (tag s) = true
 has_text (quoted s) = true
@@ -80,7 +87,7 @@ has_text (types ts) = is_some_list ts
 has_text (optional_types ts) = true
 has_text (generic os) = false
 
--- whether it takes all words that are left
+-- whether it takes all words that are left, so that no field follows
 abbrev pub takes_all : Val → Bool
 takes_all (number8 n) = false
 takes_all (number16 n) = false
@@ -91,6 +98,7 @@ takes_all (ipv4 os) = false
 takes_all (ipv6 os) = false
 takes_all (name ls) = false
 takes_all (string s) = false
+takes_all (optional_string o) = true
 takes_all (strings ss) = true
 takes_all (tag s) = false
 takes_all (quoted s) = false
@@ -171,6 +179,7 @@ take_words forms.Ipv4 os w ws = one reasons.Ipv4 w ws (with_octets ipv4 os (read
 take_words forms.Ipv6 os w ws = one reasons.Ipv6 w ws (with_octets ipv6 os (read_ipv6 w.octets))
 take_words forms.Name os w ws = one reasons.Name w ws (with_octets name os (read_name w.octets))
 take_words forms.CharString os w ws = one reasons.CharString w ws (with_octets string os (read_string w.octets))
+take_words forms.OptionalString os w ws = one reasons.CharString w ws (with_octets string os (read_string w.octets))
 take_words forms.CharStrings os w ws = all (strings_words (Ok os) (w ∷ ws))
 take_words forms.Tag os w ws = one reasons.Tag w ws (with_octets tag os (read_tag w.octets))
 take_words forms.QuotedText os w ws = one reasons.QuotedText w ws (with_octets quoted os (read_quoted w.octets))

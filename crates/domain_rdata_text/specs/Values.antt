@@ -1,5 +1,5 @@
 -- What fields hold.
-use Rattle.std.specs.Prelude.{◌≡◌, ◌⊎◌, ℕ, ◌+◌, ◌*◌, ◌-◌, ◌/◌, ◌%◌, ◌<◌, ◌==◌, Bool, false, if◌then◌else◌, List, [], ◌∷◌, ◌++◌, length, map, slice_range, Option, Some, None}
+use Rattle.std.specs.Prelude.{◌≡◌, ◌⊎◌, ℕ, ◌+◌, ◌*◌, ◌-◌, ◌/◌, ◌%◌, ◌<◌, ◌==◌, Bool, false, if◌then◌else◌, List, [], ◌∷◌, ◌++◌, length, map, slice_range, Option, Some, None, option_map}
 use Rattle.std.specs.Char.{is_ascii_alphanumeric}
 use Rattle.std.specs.List.{flat_map, list_all}
 use Rattle.domain_label.specs.Wire.{wire, Root}
@@ -31,6 +31,7 @@ pub data Val : Type 0 where
   ipv6 : List ℕ → Val
   name : List (List ℕ) → Val
   string : List ℕ → Val
+  optional_string : Option (List ℕ) → Val
   strings : List (List ℕ) → Val
   tag : List ℕ → Val
   quoted : List ℕ → Val
@@ -53,6 +54,7 @@ val_of (held.Ipv4 os) = ipv4 os.items
 val_of (held.Ipv6 os) = ipv6 os.items
 val_of (held.Name ls) = name (lists ls.items)
 val_of (held.CharString s) = string s.items
+val_of (held.OptionalString o) = optional_string (option_map (λ s. s.items) o)
 val_of (held.CharStrings ss) = strings (lists ss.items)
 val_of (held.Tag s) = tag s.items
 val_of (held.QuotedText s) = quoted s.items
@@ -79,6 +81,7 @@ form_of_val (ipv4 os) = forms.Ipv4
 form_of_val (ipv6 os) = forms.Ipv6
 form_of_val (name ls) = forms.Name
 form_of_val (string s) = forms.CharString
+form_of_val (optional_string o) = forms.OptionalString
 form_of_val (strings ss) = forms.CharStrings
 form_of_val (tag s) = forms.Tag
 form_of_val (quoted s) = forms.QuotedText
@@ -94,6 +97,11 @@ form_of_val (generic os) = forms.Generic
 abbrev pub counted : List ℕ → List ℕ
 counted s = length s ∷ s
 
+-- the octets of a string, where there is one
+abbrev pub optional_octets : Option (List ℕ) → List ℕ
+optional_octets None = []
+optional_octets (Some s) = counted s
+
 -- the octets of the field, where its name isn't compressed
 abbrev pub val_octets : Val → List ℕ
 val_octets (number8 n) = n ∷ []
@@ -105,6 +113,7 @@ val_octets (ipv4 os) = os
 val_octets (ipv6 os) = os
 val_octets (name ls) = wire (ls ++ Root)
 val_octets (string s) = counted s
+val_octets (optional_string o) = optional_octets o
 val_octets (strings ss) = flat_map counted ss
 val_octets (tag s) = counted s
 val_octets (quoted s) = s
@@ -165,6 +174,11 @@ abbrev pub string_in : List ℕ → Val
 string_in [] = generic []
 string_in (n ∷ s) = if length s == n then string s else generic (n ∷ s)
 
+-- a character string, or none
+abbrev pub optional_string_in : List ℕ → Val
+optional_string_in [] = optional_string None
+optional_string_in (n ∷ s) = if length s == n then optional_string (Some s) else generic (n ∷ s)
+
 -- octets, where the first one says how many follow
 abbrev pub counted16_in : List ℕ → Val
 counted16_in [] = generic []
@@ -221,6 +235,7 @@ val_in forms.Ipv4 os = ipv4_in os
 val_in forms.Ipv6 os = ipv6_in os
 val_in forms.Name os = generic os
 val_in forms.CharString os = string_in os
+val_in forms.OptionalString os = optional_string_in os
 val_in forms.CharStrings os = strings_or os (strings_in [] [] Between os)
 val_in forms.Tag os = tag_in os
 val_in forms.QuotedText os = quoted os

@@ -26,6 +26,8 @@ pub enum TextForm {
     Name,
     /// A character string between quotes.
     CharString,
+    /// The same, or nothing (RFC 1183, 3.2).
+    OptionalString,
     /// Character strings, each between quotes.
     CharStrings,
     /// Letters and digits (RFC 8659, 4.1).
@@ -66,7 +68,7 @@ pub fn text_form(kind: FieldKind) -> TextForm
         FieldKind::Ipv6 => TextForm::Ipv6,
         FieldKind::Name => TextForm::Name,
         FieldKind::CharString => TextForm::CharString,
-        FieldKind::OptionalString => TextForm::Generic,
+        FieldKind::OptionalString => TextForm::OptionalString,
         FieldKind::CharStrings => TextForm::CharStrings,
         FieldKind::Tag => TextForm::Tag,
         FieldKind::QuotedText => TextForm::QuotedText,
@@ -97,6 +99,7 @@ pub(crate) fn may_be_absent(form: TextForm) -> bool
         TextForm::Ipv6 => false,
         TextForm::Name => false,
         TextForm::CharString => false,
+        TextForm::OptionalString => true,
         TextForm::CharStrings => false,
         TextForm::Tag => false,
         TextForm::QuotedText => false,

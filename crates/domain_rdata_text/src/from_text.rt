@@ -369,6 +369,10 @@ fn take_field<'w>(
             push_string(alloc, refusal_of(word, Reason::CharString), octets, made)?;
             Ok(after)
         }
+        TextForm::OptionalString => {
+            push_string(alloc, refusal_of(word, Reason::CharString), octets, made)?;
+            Ok(after)
+        }
         TextForm::CharStrings => {
             push_strings(alloc, words, made)?;
             Ok(&[])

@@ -36,6 +36,8 @@ fn append_words(alloc: Global, value: &Value, words: &mut Vec<Vec<u8>>) -> Resul
         Value::Ipv6(octets) => append_ipv6_word(alloc, octets.as_slice(), words),
         Value::Name(labels) => append_name_word(alloc, labels.as_slice(), words),
         Value::CharString(string) => append_string_word(alloc, string.as_slice(), words),
+        Value::OptionalString(Some(string)) => append_string_word(alloc, string.as_slice(), words),
+        Value::OptionalString(None) => Ok(()),
         Value::CharStrings(strings) => append_string_words(alloc, strings.as_slice(), words),
         Value::Tag(tag) => append_copy(alloc, tag.as_slice(), words),
         Value::QuotedText(text) => append_string_word(alloc, text.as_slice(), words),
@@ -73,6 +75,7 @@ fn is_written(value: &Value) -> bool
         Value::CountedBase32(octets) => has_some(octets.as_slice()),
         Value::Types(types) => has_some_types(types.as_slice()),
         Value::OptionalTypes(_) => true,
+        Value::OptionalString(_) => true,
         Value::Generic(_) => false,
         Value::Number8(_) => true,
         Value::Number16(_) => true,
@@ -119,7 +122,7 @@ fn has_some_list(strings: &[Vec<u8>]) -> bool
     }
 }
 
-/// Whether a value takes all words that are left.
+/// Whether a value takes all words that are left, so that no field follows.
 fn takes_all_words(value: &Value) -> bool
     ensures { result ≡ takes_all (val_of value.now) }
 {
@@ -129,6 +132,7 @@ fn takes_all_words(value: &Value) -> bool
         Value::Base64(_) => true,
         Value::Types(_) => true,
         Value::OptionalTypes(_) => true,
+        Value::OptionalString(_) => true,
         Value::Generic(_) => false,
         Value::Number8(_) => false,
         Value::Number16(_) => false,

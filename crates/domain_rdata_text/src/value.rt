@@ -8,7 +8,7 @@ ghost use Rattle.domain_rdata_text.specs.Laws.{AreOctets};
 ghost use Rattle.domain_rdata_text.specs.Outcome.{AppendedTo};
 ghost use Rattle.domain_rdata_text.specs.Values.Val.{generic as held_generic};
 ghost use Rattle.domain_rdata_text.specs.Values.{val_of, vals_of, val_in, number8_in, number16_in, rtype_in, number32_in, time_in};
-ghost use Rattle.domain_rdata_text.specs.Values.{ipv4_in, ipv6_in, string_in, counted16_in, counted32_in};
+ghost use Rattle.domain_rdata_text.specs.Values.{ipv4_in, ipv6_in, string_in, optional_string_in, counted16_in, counted32_in};
 ghost use Rattle.domain_rdata_text.specs.Values.{types_or, optional_types_or};
 ghost use Rattle.domain_rdata_text.specs.Values.{strings_in, strings_or, is_tag, tag_in, counted, val_octets, vals_octets, ValueAt, HasValues};
 ghost use Rattle.domain_rdata_text.specs.Words.{lists};
@@ -42,6 +42,8 @@ pub enum Value {
     Name(Vec<Vec<u8>>),
     /// The octets of a character string.
     CharString(Vec<u8>),
+    /// The octets of a character string, or none.
+    OptionalString(Option<Vec<u8>>),
     /// The octets of character strings.
     CharStrings(Vec<Vec<u8>>),
     /// The letters and digits of a tag.
@@ -166,6 +168,20 @@ fn string_value(alloc: Global, octets: &[u8]) -> Result<Value, AllocError>
     if string.len() == usize::from(*len) {
         let copy = copy_of(alloc, string)?;
         return Ok(Value::CharString(copy));
+    }
+    generic_value(alloc, octets)
+}
+
+/// A character string, or none.
+fn optional_string_value(alloc: Global, octets: &[u8]) -> Result<Value, AllocError>
+    ensures { IfOk result (λ made. val_of made ≡ optional_string_in octets.now) }
+{
+    let [len, string @ ..] = octets else {
+        return Ok(Value::OptionalString(None));
+    };
+    if string.len() == usize::from(*len) {
+        let copy = copy_of(alloc, string)?;
+        return Ok(Value::OptionalString(Some(copy)));
     }
     generic_value(alloc, octets)
 }
@@ -326,6 +342,7 @@ fn octets_value(alloc: Global, form: TextForm, octets: &[u8]) -> Result<Value, A
         TextForm::Ipv6 => ipv6_value(alloc, octets),
         TextForm::Name => generic_value(alloc, octets),
         TextForm::CharString => string_value(alloc, octets),
+        TextForm::OptionalString => optional_string_value(alloc, octets),
         TextForm::CharStrings => strings_value(alloc, octets),
         TextForm::Tag => tag_value(alloc, octets),
         TextForm::QuotedText => {
