@@ -19,8 +19,9 @@ use Rattle.domain_rdata_text.specs.Bitmaps.{bitmaps_of, types_of_bitmaps}
 use Rattle.domain_rdata_text.specs.Forms.{text_form}
 use Rattle.domain_rdata_text.specs.Words.{lists}
 
--- What a field holds: a number; a time; a type, or several; the octets of an address; a name by its labels before the
--- root; the octets of a string, of several, of a tag or of what is between quotes; or octets that are all of the field.
+-- What a field holds: a number, a time, one type or several, the octets of an address, or a name by its labels before
+-- the root. It may also be the octets of a string, of several, of a tag, or of what is between quotes. Octets without
+-- such a meaning are all of the field.
 pub data Val : Type 0 where
   number8 : ℕ → Val
   number16 : ℕ → Val
