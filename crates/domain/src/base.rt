@@ -43,6 +43,7 @@ pub mod name {
     pub use domain_label::owned::OwnedLabel;
     pub use domain_label::slice_labels::SliceLabelsIter;
     pub use domain_label::split_error::{LabelTypeError, SplitLabelError};
+    pub use domain_label::split_mut::{split_octets_mut, split_wire_mut};
     pub use domain_list::chain::{Chain, ChainIter, LongChainError};
     pub use domain_list::dotted::DisplayWithDot;
     pub use domain_list::labels::{
