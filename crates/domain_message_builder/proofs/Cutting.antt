@@ -7,8 +7,8 @@ use Rattle.domain_reading.proofs.Encodings.{run_inside}
 use Rattle.domain_reading.specs.Grammar.{LabelRun, Stop, StopAt}
 use Rattle.domain_reading.specs.Grammar.Stop.{root, pointer}
 use Rattle.domain_rdata.specs.RecordData.{NameOctets}
-use Rattle.domain_record.specs.Composing.{before_length}
-use Rattle.domain_record.specs.LeftToTarget.{NameThenData}
+use Rattle.domain_message.specs.Composing.{before_length}
+use Rattle.domain_message.specs.LeftToTarget.{NameThenData}
 use Rattle.domain_message.specs.declared.section.Section.TheVariants.{Additional}
 use Rattle.domain_message_builder.specs.Contents.{RecordHead}
 use Rattle.domain_message_builder.specs.Cuts.{OnlyOptions, PushesOpt, WritesOpt, OptRefused}

@@ -3,8 +3,8 @@ use Rattle.std.proofs.Common.{◌≡◌, ℕ, ◌+◌, ◌-◌, ◌≤◌, inl, 
 use Rattle.std.specs.Prelude.{Some}
 use Rattle.domain_header.specs.Headers.{question_count, answer_count, authority_count, additional_count}
 use Rattle.domain_header.specs.declared.flags.Header.{Header}
-use Rattle.domain_record.specs.Entries.{QuestionFields}
-use Rattle.domain_record.specs.Composing.RecordExceeds.{no_name, no_numbers, no_data}
+use Rattle.domain_message.specs.Entries.{QuestionFields}
+use Rattle.domain_message.specs.Composing.RecordExceeds.{no_name, no_numbers, no_data}
 use Rattle.domain_message.specs.declared.section.Section.{Section}
 use Rattle.domain_message.specs.declared.section.Section.TheVariants.{Answer, Additional}
 use Rattle.domain_rdata.specs.ReadBack.{Appended, Exceeds}

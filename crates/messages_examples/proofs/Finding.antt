@@ -14,12 +14,12 @@ use Rattle.domain_label.specs.Lowercase.{lowercase_labels}
 use Rattle.domain_parsed.specs.declared.parsed.ParsedName.{ParsedName}
 use Rattle.domain_parsed.specs.ParsedNames.{parsed_labels}
 use Rattle.domain_header.specs.Numbers.{number16}
-use Rattle.domain_record.specs.Entries.{RecordFields, RecordAt}
+use Rattle.domain_message.specs.Entries.{RecordFields, RecordAt}
 use Rattle.domain_message.specs.Kept.{GivesKept, kept_parser}
-use Rattle.domain_record.specs.RecordParts.{owner_of, data_of}
+use Rattle.domain_message.specs.RecordParts.{owner_of, data_of}
 use Rattle.domain_message.specs.Sections.{QuestionsTo}
 use Rattle.domain_message.specs.declared.kept.RecordIter.{RecordIter}
-use Rattle.domain_record.specs.declared.resource_record.Record.{Record}
+use Rattle.domain_message.specs.declared.resource_record.Record.{Record}
 use Rattle.domain_fields.specs.Data.{AllAt, NotAll}
 use Rattle.domain_fields.specs.declared.name_field.NameField.{NameField}
 use Rattle.domain_fields.specs.declared.sequence.Sequence.{Sequence}

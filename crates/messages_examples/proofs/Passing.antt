@@ -7,13 +7,13 @@ use Rattle.octseq.specs.declared.octets.Octets.{Ghosts}
 use Rattle.octseq.specs.Parsing.{message, position}
 use Rattle.domain_wire.specs.declared.error.ParseError.{ParseError}
 use Rattle.domain_parsed.specs.declared.parsed.ParsedName.{ParsedName}
-use Rattle.domain_record.specs.Entries.{RecordFields, RecordAt, NoRecord}
+use Rattle.domain_message.specs.Entries.{RecordFields, RecordAt, NoRecord}
 use Rattle.domain_message.specs.Kept.{keeps, AreOthers, IsMadeOf, GivesKept, kept_parser, kept_left, kept_class}
 use Rattle.domain_message.specs.Sections.{Run, Begins, counted_records, entries_left, records_message, records_offset, records_left}
 use Rattle.domain_message.specs.declared.section.RecordSection.{RecordSection}
 use Rattle.domain_message.specs.declared.section.Section.{Section}
 use Rattle.domain_message.specs.declared.kept.RecordIter.{RecordIter}
-use Rattle.domain_record.specs.declared.resource_record.Record.{Record}
+use Rattle.domain_message.specs.declared.resource_record.Record.{Record}
 use Rattle.messages_examples.specs.MessageHosts.{StopsAtRecord}
 
 -- The record is of another type.

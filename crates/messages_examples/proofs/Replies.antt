@@ -5,7 +5,7 @@ use Rattle.std.proofs.lemmas.Option.{same_Some}
 use Rattle.domain_header.specs.Bits.{bit}
 use Rattle.domain_header.specs.Headers.{SetsHigh, answer_count, authority_count, additional_count}
 use Rattle.domain_header.specs.declared.flags.Header.{Header}
-use Rattle.domain_record.specs.Entries.{QuestionFields}
+use Rattle.domain_message.specs.Entries.{QuestionFields}
 use Rattle.domain_message.specs.declared.section.Section.{Section}
 use Rattle.domain_message.specs.declared.section.Section.TheVariants.{Answer, Authority, Additional}
 use Rattle.domain_rdata.specs.ReadBack.{Appended, Exceeds}

@@ -12,7 +12,7 @@ use Rattle.domain_rdata.specs.declared.record_data.ComposeRdataError.{ComposeRda
 use Rattle.domain_rdata.specs.ReadBack.{Appended}
 use Rattle.domain_rdata.specs.RecordData.{NameOctets}
 use Rattle.domain_fields.specs.Sequences.{BothComposed}
-use Rattle.domain_record.specs.Composing.{QuestionOctets, RecordOctets, ComposeRecordRefused}
+use Rattle.domain_message.specs.Composing.{QuestionOctets, RecordOctets, ComposeRecordRefused}
 use Rattle.messages_examples.specs.Responses.{response_octets, section_octets, MailData, AddressData, IsMailResponse, ExceedsMessage}
 use Rattle.messages_examples.specs.Responses.ExceedsMessage.{no_mail, no_address}
 

@@ -1,7 +1,7 @@
 -- Messages that are built.
 use Rattle.std.specs.Prelude.{◌≡◌, ℕ, ◌<◌, ◌≤◌, Bool, List, [], ◌∷◌, ◌++◌, length, drop}
 use Rattle.domain_header.specs.declared.flags.Header.{Header}
-use Rattle.domain_record.specs.Entries.{QuestionFields}
+use Rattle.domain_message.specs.Entries.{QuestionFields}
 use Rattle.domain_rdata.specs.ReadBack.{Exceeds}
 use Rattle.domain_message_builder.specs.Contents.{blank_header, Content, RecordHead, PushedRecord, AsksIn, RecordsIn}
 use Rattle.domain_message_builder.specs.Cuts.{opt_record, HasNoRoomFor}

@@ -1,7 +1,7 @@
 -- How many octets a sender takes over UDP.
 use Rattle.std.specs.Prelude.{◌≡◌, ℕ, List, Option, Some, None}
-use Rattle.domain_edns.specs.OptRecords.{opt_class, taken_size, IsTheOpt}
-use Rattle.domain_edns.specs.declared.record.OptRecord.{OptRecord}
+use Rattle.domain_message.specs.OptRecords.{opt_class, taken_size, IsTheOpt}
+use Rattle.domain_message.specs.declared.edns.OptRecord.{OptRecord}
 
 -- the size that an OPT record tells, at least 512 (RFC 6891, 6.2.3), else that of RFC 1035, 4.2.1
 abbrev pub size_told : Option OptRecord → ℕ

@@ -8,7 +8,7 @@ use Rattle.domain_wire.specs.Refusals.{refusal}
 use Rattle.domain_wire.specs.Values.{FixedAt, ShortAt}
 use Rattle.domain_label.specs.Lowercase.{lowercase_labels}
 use Rattle.domain_header.specs.Numbers.{number16}
-use Rattle.domain_record.specs.Entries.{RecordFields, RecordAt, NoRecord}
+use Rattle.domain_message.specs.Entries.{RecordFields, RecordAt, NoRecord}
 use Rattle.domain_message.specs.Sections.{Run, QuestionsTo, AuthorityTo, NoQuestions, NoAuthority}
 use Rattle.domain_fields.specs.Data.{AllAt, NotAll}
 use Rattle.domain_parsed.specs.declared.parsed.ParsedName.{ParsedName}

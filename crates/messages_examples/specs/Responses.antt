@@ -13,7 +13,7 @@ use Rattle.domain_rdata.specs.declared.record_data.ComposeRdataError.{ComposeRda
 use Rattle.domain_rdata.specs.ReadBack.{Exceeds}
 use Rattle.domain_rdata.specs.RecordData.{NameOctets}
 use Rattle.domain_fields.specs.Sequences.{BothComposed}
-use Rattle.domain_record.specs.Composing.{QuestionOctets, RecordOctets, ComposeRecordRefused}
+use Rattle.domain_message.specs.Composing.{QuestionOctets, RecordOctets, ComposeRecordRefused}
 
 -- The header: the identifier, the bit QR alone, one question, one answer and one additional record (RFC 1035, 4.1.1).
 abbrev pub response_octets : ℕ → List ℕ

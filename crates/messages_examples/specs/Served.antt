@@ -3,7 +3,7 @@ use Rattle.std.specs.Prelude.{◌≡◌, ℕ, ◌<◌, ◌⊎◌, Bool, List, []
 use Rattle.domain_header.specs.Bits.{bit}
 use Rattle.domain_header.specs.Headers.{SetsHigh}
 use Rattle.domain_header.specs.declared.flags.Header.{Header}
-use Rattle.domain_record.specs.Entries.{QuestionFields}
+use Rattle.domain_message.specs.Entries.{QuestionFields}
 use Rattle.domain_rdata.specs.ReadBack.{Exceeds}
 use Rattle.domain_message_builder.specs.Answers.{AnswersHeaderOf, HasNoQuestion, BeginsWithQuestion}
 use Rattle.domain_message_builder.specs.Contents.{blank_header, AsksIn, RecordsIn, Content, RecordHead, PushedRecord}

@@ -8,9 +8,9 @@ use Rattle.domain_header.specs.declared.flags.Header.{Header}
 use Rattle.domain_message.specs.Messages.{message_octets}
 use Rattle.domain_message.specs.declared.message.Message.{Message}
 use Rattle.domain_rdata.specs.Members.{ComposerMembers, DataMembers}
-use Rattle.domain_record.specs.RecordParts.{data_of}
-use Rattle.domain_record.specs.declared.question.Question.{Question}
-use Rattle.domain_record.specs.declared.resource_record.Record.{Record}
+use Rattle.domain_message.specs.RecordParts.{data_of}
+use Rattle.domain_message.specs.declared.question.Question.{Question}
+use Rattle.domain_message.specs.declared.resource_record.Record.{Record}
 use Rattle.domain_message_builder.specs.OptViews.{opt_of}
 use Rattle.domain_message_builder.specs.Pushes.{asked, headed}
 use Rattle.domain_message_builder.specs.declared.opt.OptBuilder.{OptBuilder}

@@ -9,8 +9,8 @@ use Rattle.domain_message.specs.Messages.{message_octets}
 use Rattle.domain_message.specs.declared.message.Message.{Message}
 use Rattle.domain_rdata.specs.Members.{ComposerMembers, DataMembers}
 use Rattle.domain_rdata.specs.RecordData.{NameOctets}
-use Rattle.domain_record.specs.RecordParts.{data_of}
-use Rattle.domain_record.specs.declared.resource_record.Record.{Record}
+use Rattle.domain_message.specs.RecordParts.{data_of}
+use Rattle.domain_message.specs.declared.resource_record.Record.{Record}
 use Rattle.domain_message_builder.specs.Pushes.{headed}
 use Rattle.messages_examples.specs.Served.{IsAuthoritative, LacksRecord}
 

@@ -7,11 +7,10 @@ ghost use Rattle.messages_examples.specs.Zones.{AnswersFromZone, NoZoneAnswerFit
 use domain_data::Ns;
 use domain_header::Rcode;
 use domain_list::AbsoluteLabels;
-use domain_message::{Message, Section};
+use domain_message::{Message, Record, Section};
 use domain_message_builder::MessageBuilder;
 use domain_name::Name;
 use domain_rdata::{ComposeRecordData, Composer};
-use domain_record::Record;
 use octseq::Octets;
 
 /// An answer from the zone itself: AA is set, a record of the zone is the answer, and an NS record in the authority

@@ -4,10 +4,9 @@ ghost use Rattle.messages_examples.specs.Targets.{AsksQuestion, NoQueryFits, Ask
 
 use domain_header::Header;
 use domain_list::AbsoluteLabels;
-use domain_message::Section;
+use domain_message::{Question, Record, Section};
 use domain_message_builder::{MessageBuilder, OptBuilder};
 use domain_rdata::{ComposeRecordData, Composer};
-use domain_record::{Question, Record};
 
 /// A message with this header and this question.
 pub fn query<'a, N: AbsoluteLabels<'a>, Target: Composer + Drop>(

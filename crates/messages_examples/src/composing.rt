@@ -6,9 +6,9 @@ use arrayvec::ArrayVec;
 use domain_compress::CompressComposer;
 use domain_data::{A, Mx};
 use domain_header::{Class, Header, HeaderCounts, HeaderSection, Ttl};
+use domain_message::{Question, Record};
 use domain_name::Name;
 use domain_rdata::Rtype;
-use domain_record::{Question, Record};
 use domain_wire::Ipv4Addr;
 use octseq::OctetsBuilder;
 

@@ -1,11 +1,10 @@
 //! What a sender states about itself beside its message.
 ghost use Rattle.std.specs.Prelude.{IfErr, IfOk};
-ghost use Rattle.domain_edns.specs.OptRecords.{HasOptFault};
+ghost use Rattle.domain_message.specs.OptRecords.{HasOptFault};
 ghost use Rattle.domain_message.specs.Messages.{message_octets};
 ghost use Rattle.messages_examples.specs.EdnsSizes.{TellsSize};
 
-use domain_edns::{OptError, opt_of};
-use domain_message::Message;
+use domain_message::{Message, OptError, opt_of};
 use octseq::Octets;
 
 /// How many octets the sender of a message takes over UDP: 512 where it doesn't say (RFC 6891, 6.2.5).

@@ -4,10 +4,9 @@ ghost use Rattle.messages_examples.specs.Targets.{AnswersWith, NoAnswerFits};
 
 use domain_header::Header;
 use domain_list::AbsoluteLabels;
-use domain_message_builder::MessageBuilder;
+use domain_message::{Question, Record};
+use domain_message_builder::{MessageBuilder, QuestionBuilder};
 use domain_rdata::{ComposeRecordData, Composer};
-use domain_record::{Question, Record};
-use domain_sections::QuestionBuilder;
 
 /// A message of at most 512 octets with this header, this question and this answer. It has the contract of `answer`,
 /// which takes the section as an argument.

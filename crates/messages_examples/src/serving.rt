@@ -4,10 +4,9 @@ ghost use Rattle.messages_examples.specs.Targets.{Refers, NoReferralFits, TellsE
 
 use domain_header::Rcode;
 use domain_list::AbsoluteLabels;
-use domain_message::{Message, Section};
+use domain_message::{Message, Record, Section};
 use domain_message_builder::{MessageBuilder, OptBuilder};
 use domain_rdata::{ComposeRecordData, Composer};
-use domain_record::Record;
 use octseq::Octets;
 
 /// A referral: a server of a zone below in the authority section, and its address in the additional section. `None`

@@ -1,9 +1,8 @@
 //! OPT records that are read: octets as the standards draw them (RFC 6891, 6.1; RFC 7871, 6; RFC 7873, 4; RFC 8914,
 //! 2).
 
-use domain_edns::{OptError, OptIter, opt_of};
 use domain_header::Rcode;
-use domain_message::Message;
+use domain_message::{Message, OptError, OptIter, opt_of};
 use domain_wire::ParseError;
 use std::process::Abort;
 

@@ -3,12 +3,12 @@ ghost use Rattle.std.specs.Prelude.{◌≡◌, ◌++◌, Some, false, refl};
 
 use arrayvec::ArrayVec;
 use domain_header::{Class, Ttl};
+use domain_message::Record;
 use domain_name::Name;
 use domain_rdata::{
     CanonicalError, CanonicalRecordData, ComposeRdataError, ComposeRecordData, Composer,
     RecordData, Rtype, UnknownRecordData,
 };
-use domain_record::Record;
 use octseq::OctetsBuilder;
 use std::alloc::Global;
 use std::process::Abort;

@@ -5,9 +5,9 @@ use Rattle.domain_data.specs.Views.{fields_of}
 use Rattle.domain_header.specs.Values.{class_number, ttl_seconds}
 use Rattle.domain_rdata.specs.ReadBack.{Appended}
 use Rattle.domain_rdata.specs.Rtypes.{rtype_number}
-use Rattle.domain_record.specs.Composing.{QuestionOctets, RecordOctets, ComposeRecordRefused}
-use Rattle.domain_record.specs.RecordParts.{owner_of, class_of, ttl_of, data_of}
-use Rattle.domain_record.specs.Views.{question_name, question_type, question_class}
+use Rattle.domain_message.specs.Composing.{QuestionOctets, RecordOctets, ComposeRecordRefused}
+use Rattle.domain_message.specs.RecordParts.{owner_of, class_of, ttl_of, data_of}
+use Rattle.domain_message.specs.EntryViews.{question_name, question_type, question_class}
 use Rattle.messages_examples.specs.Responses.{IsMailResponse}
 use Rattle.messages_examples.proofs.Responding.{of_ok, of_err, head_is, same_question, same_mail, same_address, up_to_records, up_to_address, is_mail_response, mail_exceeds, address_exceeds}
 use Rattle.messages_examples.proofs.composing.mail_response.Goals as goal

@@ -1,7 +1,7 @@
 use Rattle.std.proofs.Common.{ap, arith, subst, sym, ◌∙◌}
 use Rattle.domain_message_builder.specs.Pushes.{asked}
 use Rattle.domain_message_builder.specs.Views.{state_of, target_of}
-use Rattle.domain_sections.specs.Errors.{push_error}
+use Rattle.domain_message_builder.specs.SectionErrors.{push_error}
 use Rattle.messages_examples.proofs.Built.{Asks, asks, is_answer, none_set, not_begun, not_asked_of, not_answered}
 use Rattle.messages_examples.specs.Built.NotAnswered.{not_asked}
 use Rattle.messages_examples.proofs.sections.answer_by_sections.Goals as goal
