@@ -8,7 +8,6 @@ use domain_header::Class;
 use domain_zone::{BuildError, InsertError, Owner, Zone, ZoneBuilder};
 use domain_zone_answer::respond;
 use domain_zone_laws::zone::Rrset;
-use domain_zone_lookup::lookup;
 
 /// `zone APEX RECORDS QUESTIONS`
 pub fn put_zone(out: &Answer, apex: &[u8], records: &[u8], questions: &[u8]) {
@@ -65,7 +64,7 @@ fn put_answers(out: &Answer, zone: &Zone, questions: &[u8]) {
         if let Some(name) = name_of(out, name) {
             put_owned(out, zone, &name, rtype);
             let asked = name.for_slice();
-            put_outcome(out, &lookup(zone, &asked, rtype));
+            put_outcome(out, &zone.lookup(&asked, rtype));
             put_sections(out, &respond(zone, &asked, rtype));
         }
     }
