@@ -193,10 +193,11 @@ fn words_of_data(alloc: Global, plain: &PlainData) -> Result<Vec<Vec<u8>>, Alloc
 /// Appends the text of record data: its fields with a space between two (RFC 1035, 5.1), or `\#`, the number of its
 /// octets and these in hexadecimal digits (RFC 3597, 5).
 ///
-/// The second is for data with a field that has no form of its own ([`TextForm`](crate::TextForm)), whose last field
-/// is empty, or with bitmaps of types that aren't canonical (RFC 4034, 4.1.2). Names are written with their final dot,
-/// and without pointers. In them a dot, a backslash, a space and `;`, `"`, `(`, `)`, `@`, `$` are written after a
-/// backslash, other octets that aren't printed as a backslash and three digits.
+/// The second is for data with a field that has no form of its own ([`TextForm`](crate::TextForm)), for data that ends
+/// in octets in digits or base64 where there are none, and for bitmaps of types that aren't canonical (RFC 4034,
+/// 4.1.2). Names are written with their final dot, and without pointers. In them a dot, a backslash, a space and `;`,
+/// `"`, `(`, `)`, `@`, `$` are written after a backslash, other octets that aren't printed as a backslash and three
+/// digits.
 ///
 /// # Errors
 ///
