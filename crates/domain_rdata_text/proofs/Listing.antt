@@ -1,11 +1,9 @@
 -- What is found in the bitmaps of types.
-use Rattle.std.proofs.Common.{◌≡◌, ◌∙◌, ◌⊎◌, inl, inr, ℕ, zero, suc, ◌+◌, ◌-◌, ◌*◌, ◌/◌, ◌%◌, ◌<◌, ◌≤◌, Bool, true, false, ◌==◌, ◌&&◌, cond, nat_lt, List, [], ◌∷◌, ◌++◌, Option, Some, None, refl, sym, subst, ap, append_assoc, append-nil, arith}
-use Rattle.std.specs.Cmp.Lexicographic.{pointwise}
-use Rattle.std.specs.List.{AllByRecursion}
-use Rattle.std.proofs.lemmas.Bool.{false≢true, true_from_ne_false, false_from_ne_true, cases_Bool, cases_eq, cases_lt, and_parts, and_from, cond-true, cond-false, cond_both, eq-eqb, eqb-true, eqb-false, ne_eqb, lt-ltb, le-ltb, ltb-true, ltb-false}
+use Rattle.std.proofs.Common.{◌≡◌, ◌∙◌, ℕ, zero, suc, ◌+◌, ◌-◌, ◌*◌, ◌/◌, ◌%◌, ◌<◌, ◌≤◌, Bool, true, false, ◌==◌, ◌&&◌, cond, nat_lt, List, [], ◌∷◌, ◌++◌, Some, None, refl, sym, ap, append_assoc, append-nil, arith}
+use Rattle.std.proofs.lemmas.Bool.{cond-false, cond_both, ne_eqb, le-ltb}
 use Rattle.domain_rdata_text.specs.declared.bitmaps.Block.{Block}
-use Rattle.domain_rdata_text.specs.declared.bitmaps.Block.TheVariants.{Ended, Window, Bitmap}
-use Rattle.domain_rdata_text.specs.Bitmaps.{has_type, weight_of, four_of, octet_of, bitmap, len_with, bitmap_len, block_of_len, block, blocks, windows_with, window_count, bitmaps_of, with_bit, with_four, with_octet, block_after, types_in, canonical, types_of_bitmaps}
+use Rattle.domain_rdata_text.specs.declared.bitmaps.Block.TheVariants.{Ended, Bitmap}
+use Rattle.domain_rdata_text.specs.Bitmaps.{has_type, weight_of, four_of, octet_of, bitmap, len_with, bitmap_len, block_of_len, block, blocks, window_count, bitmaps_of, with_bit, with_four, with_octet, block_after, types_in}
 
 -- ---- what is found in an octet
 -- types, and t after them, if the bit is a one
