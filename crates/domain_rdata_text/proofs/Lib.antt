@@ -15,7 +15,6 @@ pub mod Sextets
 pub mod Holding
 pub mod Gathering
 pub mod Plainly
-pub mod Moving
 pub mod Standing
 pub mod Marking
 pub mod Taking

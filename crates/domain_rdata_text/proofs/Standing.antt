@@ -21,7 +21,7 @@ use Rattle.domain_rdata_text.specs.Texts.{IsPlain}
 use Rattle.domain_rdata_text.specs.Values.{Val, val_octets, vals_octets, val_in, ValueAt, ValuesAt}
 use Rattle.domain_rdata_text.specs.Values.Val.{name}
 use Rattle.domain_rdata_text.proofs.Holding.{held_in}
-use Rattle.domain_rdata_text.proofs.Moving.{Moved, moved, form_moved}
+use Rattle.domain_descriptor.proofs.Moving.{Moved, moved, form_moved}
 use Rattle.domain_rdata_text.proofs.Octets.{octets_range}
 
 -- ---- nothing is after the end
