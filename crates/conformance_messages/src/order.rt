@@ -1,9 +1,7 @@
 //! Two data of any type: their order, and whether they are equal.
 
-use crate::data::Read;
 use conformance_labels::{Answer, Fail, Fields};
-use domain_all_data::AllRecordData;
-use domain_name::Name;
+use domain_any_rdata::{AllRecordData, OwnedRecordData};
 use domain_rdata::{ParseAnyRecordData, Rtype};
 use domain_traits::FlattenInto;
 use domain_wire::CanonicalOrd;
@@ -12,10 +10,10 @@ use std::cmp::Ordering;
 use std::hash::{DefaultHasher, Hash, Hasher};
 
 /// Data over the octets that were read.
-type Lent<'a> = AllRecordData<&'a [u8], Read<'a>>;
+type Lent<'a> = AllRecordData<'a>;
 
 /// The same data over octets of its own.
-type Owned = AllRecordData<Vec<u8>, Name<Vec<u8>>>;
+type Owned = OwnedRecordData;
 
 /// `order TYPE OCTETS TYPE OCTETS`: the canonical order of the two, and whether they are equal. Over octets of their
 /// own they must be the same, and what is equal must have one hash.

@@ -1,12 +1,10 @@
 //! A message that is read, and built anew.
 
-use crate::data::Read;
 use conformance_labels::Answer;
-use domain_all_data::AllRecordData;
+use domain_any_rdata::AllRecordData;
 use domain_compress::CompressComposer;
 use domain_message::{Message, RecordSection, Section};
 use domain_message_builder::MessageBuilder;
-use domain_rdata::ParseAnyRecordData;
 use domain_record::{ParsedRecord, Record};
 use domain_wire::ParseError;
 use octseq::Octets;
@@ -14,9 +12,6 @@ use std::fmt::Display;
 
 /// What a message is composed into, with names written shorter.
 type Target = CompressComposer<Vec<u8>>;
-
-/// Data of any type, as it is read.
-type AnyData<'a> = AllRecordData<&'a [u8], Read<'a>>;
 
 /// `rebuild OCTETS`: the octets of the message that is built of the entries that are read.
 pub fn put_rebuilt(out: &Answer, octets: &[u8]) {
@@ -111,10 +106,11 @@ fn push_record(
     found: &ParsedRecord<'_>,
     made: &mut MessageBuilder<Target>,
 ) -> bool {
-    let mut left = found.data();
-    let data = match AnyData::parse_any_rdata(found.rtype(), &mut left) {
+    let left = found.data();
+    let (octets, begin) = (left.as_slice(), left.pos());
+    let data = match AllRecordData::parse(found.rtype(), found.class(), octets, begin) {
         Ok(data) => data,
-        Err(error) => return is_refused(out, error),
+        Err(fault) => return is_refused(out, ParseError::from(fault)),
     };
     let record = Record::new(found.owner(), found.class(), found.ttl(), data);
     match made.push(section, &record) {

@@ -3,8 +3,10 @@
 
 pub mod all;
 mod compose;
+mod display;
 mod left;
 mod len;
+mod look;
 pub mod name_form;
 mod order;
 pub mod owned;
@@ -16,3 +18,6 @@ pub use all::AllRecordData;
 pub use name_form::NameForm;
 pub use owned::OwnedRecordData;
 
+
+#[cfg(test)]
+mod tests;

@@ -7,10 +7,9 @@ ghost use Rattle.domain_lines.specs.Writing.{PutsLine, PutsOpt, PutsEntry, Tells
 
 use crate::edns::{EdnsLine, write_options};
 use crate::streams::Sink;
-use domain_all_data::AllRecordData;
+use domain_any_rdata::AllRecordData;
 use domain_header::Rcode;
 use domain_message::Section;
-use domain_rdata::ParseAnyRecordData;
 use domain_record::{ParsedRecord, Record, RtypeText};
 use domain_tool::tool::WriteFault;
 use domain_traits::ToName;
@@ -68,15 +67,16 @@ pub fn write_record<W: Sink>(found: &ParsedRecord<'_>, output: &mut W) -> Result
         output.put_line(BareLine { record: *found })?;
         return Ok(());
     }
-    let mut data = found.data();
-    match AllRecordData::parse_any_rdata(found.rtype(), &mut data) {
+    let data = found.data();
+    match AllRecordData::parse(found.rtype(), found.class(), data.as_slice(), data.pos()) {
         Ok(rdata) => {
             let record = Record::new(found.owner(), found.class(), found.ttl(), rdata);
             output.put_line(record)?;
             Ok(())
         }
-        Err(why) => {
+        Err(fault) => {
             let record = *found;
+            let why = ParseError::from(fault);
             output.put_line(UnreadLine { record, why })?;
             Ok(())
         }
