@@ -110,6 +110,16 @@ def in_orders(labels):
     return " ".join(from_ends(labels, calls) for calls in ("f" * count, "b" * count, ("fb" * count)[:count]))
 
 
+def walked(message, place):
+    """What `walk` answers for a name whose labels are letters alone."""
+    labels, flag, _behind = read_slowly(message, place)
+    rests = [flag + hx(rel(*labels[at:])) for at in range(len(labels))]
+    firsts = [hx(rel(label)) for label in labels[:-1]] + rests[-1:]
+    text = b".".join(labels[:-1])
+    numbers = "%d %d %s %s %s" % (len(labels), len(labels) - 1, hx(text), hx(text + b"."), hx(rel(*labels).lower()))
+    return " ".join((in_orders(labels), ",".join(rests), ",".join(rests[1:]), ",".join(firsts), numbers))
+
+
 WWW = absolute(b"www", b"example", b"com")
 MIXED = absolute(b"wWw", b"eXAMple", b"Com")
 OTHER = absolute(b"ww4", b"EXAMPLE", b"com")
@@ -464,6 +474,18 @@ told("chainforms", rel(b"www"), absolute(b"com"), "made={0} canonical={0} cow=ow
 row("forms", absolute(b"www", b"examples", b"com"))
 row("pforms", b"\3com\0\7exampleS\xc0\0\3www\xc0\5".replace(b"\7exampleS", b"\10exampleS"), 16)
 
+
+def lent_forms(octets):
+    """What is made of a reference to a relative name, which lends no octets."""
+    both = octets, octets.lower()
+    held = [hx(it) if len(it) <= 17 else "buffer size exceeded" for it in both]
+    composed = ["ok aa" + it.hex() if len(it) <= 16 else "err aa" for it in both]
+    own("lentrelforms", octets, "made=%s canonical=%s cow=own held=%s lowered=%s composed=%s %s" % (*map(hx, both), *held, *composed))
+
+
+for octets in [it[:-1] for it in FLAT] + PARTS + [b"\1*"]:
+    lent_forms(octets)
+
 topic("names one after another into one array, which refuses those that it has no room for")
 
 
@@ -769,6 +791,9 @@ for end in range(15, 21):
     told("parse", SCATTERED, 15, end, "err 15 unexpected end of input")
     told("skip", SCATTERED, 15, end, "err 15 unexpected end of input")
 told("parse", SCATTERED + b"\xff" * 100, 15, 21, "ok %s c 21" % hx(WWW))
+own("walk", SCATTERED + b"\xff" * 100, 15, 21, walked(SCATTERED, 15))
+own("walk", SCATTERED, 15, 20, "err")
+own("walk", SCATTERED, 15, 22, "bad")
 told("parse", b"\1a\1b\xc0\0", 0, "err 0 long domain name")
 told("parse", b"\4\1a\xc0\1\xc0\1", 0, "err 0 long domain name")
 told("parse", FAR, 16386, "ok 0179017a00 c 16390")
@@ -783,6 +808,7 @@ for message, place in PLACED:
     for labels in range(6):
         row("rest", message, place, labels)
 row("walk", b"123\0", 3)
+told("walk", SCATTERED, 15, walked(SCATTERED, 15))
 told("rest", SCATTERED, 15, 1, "6578616d706c65,636f6d,- -,636f6d,6578616d706c65 6578616d706c65,-,636f6d c076578616d706c6503636f6d00")
 told("rest", MOST, 509, 126, "61,- -,61 61,- c016100")
 row("rest", MOST, 509, 0)
@@ -981,7 +1007,7 @@ LABEL = "123456789."
 for text, answer in (
     ("", "err BadLabel(SymbolChars(ShortInput))"), (".", "ok 00"), (".a", "err EmptyLabel"), ("a..b", "err EmptyLabel"), ("a.b", "ok 0161016200"),
     ("a.b.", "ok 0161016200"), ("\\[a", "err BadLabel(BinaryLabel)"), ("[a", "ok 025b6100"), ("\\065", "ok 014100"),
-    ("\\256", "err BadLabel(SymbolChars(BadEscape))"), ("a\\", "err BadLabel(SymbolChars(ShortInput))"), ("a\\.b", "ok 03612e6200"), ("\u00e9", "err BadLabel(BadSymbol)"),
+    ("\\256", "err BadLabel(SymbolChars(BadEscape))"), ("\\256a", "err BadLabel(SymbolChars(BadEscape))"), ("a\\", "err BadLabel(SymbolChars(ShortInput))"), ("a\\.b", "ok 03612e6200"), ("\u00e9", "err BadLabel(BadSymbol)"),
     (".\\256", "err EmptyLabel"), ("..", "err EmptyLabel"), ("www.example.com", "ok " + hx(WWW)), ("www.example.com.", "ok " + hx(WWW)), ("a\\065.b", "ok 026141016200"),
     ("\\091a", "ok 025b6100"), ("a.\\[", "err BadLabel(BinaryLabel)"), ("a\\[", "ok 02615b00"), ("\\", "err BadLabel(SymbolChars(ShortInput))"), ("a\u00e9", "err BadLabel(BadSymbol)"),
     (LABEL * 25 + "123", "ok " + hx(LONG + b"\x03123\0")), (LABEL * 25 + "123.", "ok " + hx(LONG + b"\x03123\0")), (LABEL * 25 + "1234", "err LongName"),
@@ -1287,7 +1313,9 @@ LABEL_LONG, LONG_TEXT, SHORT, INPUT, ESCAPE = "label length limit exceeded", "lo
 own("errors", "".join(it + ";" for it in (
     ["long label", LABEL_LONG, LONG_TEXT, LONG_TEXT, SHORT, SHORT] + [LONG_TEXT, LONG_TEXT, SHORT, SHORT] + [INPUT] * 4 + [ESCAPE] * 4 + ["illegal character"] * 4
     + ["a binary label was encountered"] * 3 + [LABEL_LONG] * 3 + ["empty label"] * 3 + [LONG_TEXT] * 3 + [SHORT, "absolute domain name"]
-    + ["record data too long", "record data too long", SHORT, "record data too long", "illegal signature time"])))
+    + ["record data too long", "record data too long", SHORT, "record data too long", "illegal signature time"]
+    + ["undefined label type"] * 4 + ["unknown extended label 0x7f"] * 4 + ["compressed domain name"] * 3 + [INPUT] * 3 + [LONG_TEXT, "absolute domain name"]
+    + ["long label", LONG_TEXT, "suffix not found", SHORT, INPUT, INPUT, "another form", "another form"])))
 
 topic("the program's words")
 USAGE = b"usage: dnsnames at PLACE [--pointers N] | dnsnames text NAME | dnsnames list\n"

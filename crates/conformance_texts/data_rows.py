@@ -14,7 +14,7 @@ import struct
 
 IN, CHAOS, NONE, ANY, PRIVATE = 1, 3, 254, 255, 65280
 NS, CNAME, SOA, HINFO, MX, TXT, AAAA, SRV, RRSIG, DNSKEY, NSEC3PARAM = 2, 5, 6, 13, 15, 16, 28, 33, 46, 48, 51
-DS, OPENPGPKEY, URI, CAA = 43, 61, 256, 257
+DS, NSEC, NSEC3, OPENPGPKEY, CSYNC, URI, CAA = 43, 47, 50, 61, 62, 256, 257
 
 # The signature and the key of RFC 4034, 3.3 and 2.3.
 SIGNATURE = (
@@ -80,6 +80,9 @@ PLACES = [
      b"\x05louie\x07trantor\x03umd\x03edu\x00\x04LAM1\x06people\x03umd\x03edu\x00"),
     (18, b"1 bigbird.toaster.com.", b"\x00\x01\x07bigbird\x07toaster\x03com\x00"),
     (19, b'"311061700956"', b"\x0c311061700956"),
+    (20, b'"150862028003217" "004"', b"\x0f150862028003217\x03004"),
+    (20, b'"150862028003217"', b"\x0f150862028003217"),
+    (20, b'"" ""', b"\x00\x00"),
     (21, b"10 NET.Prime.COM.", b"\x00\n\x03NET\x05Prime\x03COM\x00"),
     (26, b"50 ab.net2.it. O-ab.PRMD-net2.ADMDb.C-it.",
      b"\x002\x02ab\x04net2\x02it\x00\x04O-ab\tPRMD-net2\x05ADMDb\x04C-it\x00"),
@@ -140,6 +143,30 @@ SALTS = [
     (51, b"1 1 65535 " + bytes(range(1, 256)).hex().encode(),
      b"\x01\x01\xff\xff\xff" + bytes(range(1, 256))),
 ]
+# Bitmaps of types (RFC 4034, 4.3; RFC 5155, A; RFC 7477, 2.2), in the first window and the last, and none.
+HASHED = b"1 1 12 aabbccdd 2t7b4g4vsa5smi47k61mv5bv1a22bojr"
+HASHED_OCTETS = bytes.fromhex("0101000c04aabbccdd14174eb2409fe28bcb4887a1836f957f0a8425e27b")
+BITMAPS = [
+    (47, b"host.example.com. A MX RRSIG NSEC TYPE1234",
+     b"\x04host\x07example\x03com\x00" + bytes.fromhex("0006400100000003041b" + 26 * "00" + "20")),
+    (47, b". A", b"\x00\x00\x01@"),
+    (47, b". TYPE0 A CAA TA", b"\x00\x00\x01\xc0\x01\x01@\x80\x01\x80"),
+    (47, b". TYPE65535", b"\x00\xff\x20" + bytes(31) + b"\x01"),
+    (47, b". ANY URI", b"\x00\x00\x20" + bytes(31) + b"\x01\x01\x01\x80"),
+    (50, HASHED + b" NS SOA MX RRSIG DNSKEY NSEC3PARAM", HASHED_OCTETS + bytes.fromhex("000722010000000290")),
+    (50, HASHED, HASHED_OCTETS),
+    (62, b"66 3 A NS AAAA", bytes.fromhex("000000420003000460000008")),
+    (62, b"66 3", b"\x00\x00\x00B\x00\x03"),
+]
+# Octets in base32hex (RFC 4648, 10, in lower case), after an empty salt.
+HASHES = [
+    (50, b"1 0 0 - co", b"\x01\x00\x00\x00\x00\x01f"),
+    (50, b"1 0 0 - cpng", b"\x01\x00\x00\x00\x00\x02fo"),
+    (50, b"1 0 0 - cpnmu", b"\x01\x00\x00\x00\x00\x03foo"),
+    (50, b"1 0 0 - cpnmuog", b"\x01\x00\x00\x00\x00\x04foob"),
+    (50, b"1 0 0 - cpnmuoj1", b"\x01\x00\x00\x00\x00\x05fooba"),
+    (50, b"1 0 0 - cpnmuoj1e8", b"\x01\x00\x00\x00\x00\x06foobar"),
+]
 # Signatures (RFC 4034, 3.2 and 3.3; RFC 3597, 5).
 SIGNATURES = [
     (46, b"A" + SIGNED, b"\x00\x01" + SIGNED_OCTETS),
@@ -154,17 +181,20 @@ SIGNATURES = [
 GENERIC = [
     (10, b"\\# 0", b""),
     (10, b"\\# 3 000aff", b"\x00\n\xff"),
-    (20, b"\\# 20 0f31353038363230323830303332313703303034", b"\x0f150862028003217\x03004"),
     (43, b"\\# 4 ec450501", b"\xecE\x05\x01"),
     (44, b"\\# 2 0201", b"\x02\x01"),
     (52, b"\\# 3 000001", b"\x00\x00\x01"),
     (48, b"\\# 4 01000305", b"\x01\x00\x03\x05"),
     (49, b"\\# 0", b""),
-    (47, b"\\# 4 00000140", b"\x00\x00\x01@"),
+    (47, b"\\# 4 00000100", b"\x00\x00\x01\x00"),
+    (47, b"\\# 5 0000024000", b"\x00\x00\x02@\x00"),
+    (47, b"\\# 7 00000140010100", b"\x00\x00\x01@\x01\x01\x00"),
+    (50, b"\\# 10 01000000000166000100", b"\x01\x00\x00\x00\x00\x01f\x00\x01\x00"),
+    (62, b"\\# 10 00000042000300026000", b"\x00\x00\x00B\x00\x03\x00\x02\x60\x00"),
     (731, b"\\# 6 abcdef012345", b"\xab\xcd\xef\x01#E"),
     (62347, b"\\# 0", b""),
 ]
-BOTH_WAYS = HOSTS + STRINGS + NAMES + PLACES + KEYS + SALTS + SIGNATURES + GENERIC
+BOTH_WAYS = HOSTS + STRINGS + NAMES + PLACES + KEYS + SALTS + BITMAPS + HASHES + SIGNATURES + GENERIC
 # Addresses as they are shown (RFC 4291, 2.2; RFC 5952, 4), and other texts of addresses.
 ADDRESSES = [
     (b"2001:db8::1", "20010db8000000000000000000000001"),
@@ -214,6 +244,9 @@ READINGS = [
     (16, b'"a;b" ; c\n"(d)"', b"\x03a;b\x03(d)"),
     (16, b'"a\nb"', b"\x03a\nb"),
     (16, b'"\\a\\098\\"" \\;\\(', b'\x03ab"\x02;('),
+    (20, b"150862028003217 004", b"\x0f150862028003217\x03004"),
+    (20, b"150862028003217 ; no subaddress", b"\x0f150862028003217"),
+    (20, b"\\# 20 0f31353038363230323830303332313703303034", b"\x0f150862028003217\x03004"),
     (15, b"00010\n\tmail. ; first\n", b"\x00\n\x04mail\x00"),
     (6, b"a. b. ; names\n 1 ; serial\n 2\r\n3\t4 5",
      b"\x01a\x00\x01b\x00\x00\x00\x00\x01\x00\x00\x00\x02\x00\x00\x00\x03\x00\x00\x00\x04\x00\x00\x00\x05"),
@@ -232,6 +265,14 @@ READINGS = [
     (48, b"\\# 7 01000305666f6f", b"\x01\x00\x03\x05foo"),
     (51, b"1 0 12 AABBccdd ; salt", b"\x01\x00\x00\x0c\x04\xaa\xbb\xcc\xdd"),
     (51, b"\\# 5 0100000000", b"\x01\x00\x00\x00\x00"),
+    (47, b". TYPE1 a A nsec TYPE47", b"\x00\x00\x06@\x00\x00\x00\x00\x01"),
+    (47, b". ta TYPE257 ; types\n a", b"\x00\x00\x01@\x01\x01@\x80\x01\x80"),
+    (47, b". * TYPE00255", b"\x00\x00\x20" + bytes(31) + b"\x01"),
+    (47, b"\\# 4 00000140", b"\x00\x00\x01@"),
+    (50, b"1 0 0 - CPNMUOJ1E8", b"\x01\x00\x00\x00\x00\x06foobar"),
+    (50, b"1 0 0 - cPnMuOj1E8 ; none", b"\x01\x00\x00\x00\x00\x06foobar"),
+    (50, HASHED.upper() + b" MX DNSKEY NS SOA NSEC3PARAM RRSIG",
+     HASHED_OCTETS + bytes.fromhex("000722010000000290")),
     (46, b"aaaa" + SIGNED, b"\x00\x1c" + SIGNED_OCTETS),
     (46, b"type1" + SIGNED, b"\x00\x01" + SIGNED_OCTETS),
     (46, b"*" + SIGNED, b"\x00\xff" + SIGNED_OCTETS),
@@ -321,7 +362,9 @@ FAULTS = [
     (2, b"\\# 8 03636f6d00016100", 0, "NotData"),
     (257, b"\\# 5 0003612d62", 0, "NotData"),
     (62347, b"00", 0, "OnlyGeneric"),
-    (20, b"150862028003217 004", 16, "OnlyGeneric"),
+    (20, b"", 0, "MissingWord"),
+    (20, b"150862028003217 004 5", 20, "ExtraWord"),
+    (20, b'150862028003217 "00"4', 16, "CharString"),
     (108, b"00-00-5e-00-53-2a", 0, "OnlyGeneric"),
     (15, b"65536 mail", 0, "Number"),
     (15, b"x mail. (", 8, "Parenthesis"),
@@ -350,6 +393,21 @@ FAULTS = [
     (51, b"1 0 12 -aa", 7, "CountedBase16"),
     (51, b'1 0 12 "aa"', 7, "CountedBase16"),
     (51, b"1 0 12 " + b"00" * 256, 7, "CountedBase16"),
+    (47, b"host.", 5, "MissingWord"),
+    (47, b"host. A B", 8, "Rtype"),
+    (47, b". TYPE65536", 2, "Rtype"),
+    (47, b". A \\# 1 00", 4, "Rtype"),
+    (47, b". A MX.", 4, "Rtype"),
+    (50, b"1 0 1 -", 7, "MissingWord"),
+    (50, b"1 0 1 - 0", 8, "CountedBase32"),
+    (50, b"1 0 1 - 01", 8, "CountedBase32"),
+    (50, b"1 0 1 - 000", 8, "CountedBase32"),
+    (50, b"1 0 1 - co======", 8, "CountedBase32"),
+    (50, b"1 0 1 - w0", 8, "CountedBase32"),
+    (50, b"1 0 1 - -", 8, "CountedBase32"),
+    (50, b"1 0 1 - co co", 11, "Rtype"),
+    (50, b"1 0 1 - " + b"0" * 410, 8, "CountedBase32"),
+    (62, b"66 3 4", 5, "Rtype"),
 ]
 # Texts that aren't IPv6 addresses (RFC 4291, 2.2).
 NO_ADDRESSES = (
@@ -390,24 +448,24 @@ SIGNATURE_FAULTS = [
 ]
 
 # The fields of data of each type by letters of KINDS, in class IN: all but those of OF_OCTETS have a form of text.
-# RFC 1035, 3.3 and 3.4. 1183 (RP, AFSDB, X25, RT). 2535 (SIG, KEY). 2163 (PX). 1712 (GPOS). 3596 (AAAA). 2782 (SRV).
-# 3403 (NAPTR). 2230 (KX). 4398 (CERT). 6672 (DNAME). 4034 (DS, RRSIG, DNSKEY). 4255 (SSHFP). 4701 (DHCID). 5155
-# (NSEC3PARAM). 6698 (TLSA). 8162 (SMIMEA). 7344 (CDS, CDNSKEY). 7929 (OPENPGPKEY). 8976 (ZONEMD). 7208 (SPF). 6742
-# (L32, LP). 7553 (URI). 8659 (CAA). 4431 (DLV). TALINK and AVC are of IANA's registry.
+# RFC 1035, 3.3 and 3.4. 1183 (RP, AFSDB, X25, ISDN, RT). 2535 (SIG, KEY). 2163 (PX). 1712 (GPOS). 3596 (AAAA). 2782
+# (SRV). 3403 (NAPTR). 2230 (KX). 4398 (CERT). 6672 (DNAME). 4034 (DS, RRSIG, NSEC, DNSKEY). 4255 (SSHFP). 4701 (DHCID).
+# 5155 (NSEC3, NSEC3PARAM). 6698 (TLSA). 8162 (SMIMEA). 7344 (CDS, CDNSKEY). 7929 (OPENPGPKEY). 7477 (CSYNC). 8976
+# (ZONEMD). 7208 (SPF). 6742 (L32, LP). 7553 (URI). 8659 (CAA). 4431 (DLV). TALINK and AVC are of IANA's registry.
 FIELDS = {
     1: "a", 2: "n", 3: "n", 4: "n", 5: "n", 6: "nn44444", 7: "n", 8: "n", 9: "n", 12: "n", 13: "ss", 14: "nn",
-    15: "2n", 16: "S", 17: "nn", 18: "2n", 19: "s", 21: "2n", 24: "R114TT2nb", 25: "211b", 26: "2nn", 27: "sss",
-    28: "A", 33: "222n", 35: "22sssn", 36: "2n", 37: "221b", 39: "n", 43: "211h", 44: "11h", 46: "R114TT2nb",
-    48: "211b", 49: "b", 51: "112H", 52: "111h", 53: "111h", 58: "nn", 59: "211h", 60: "211b", 61: "b", 63: "411h",
-    99: "S", 105: "2a", 107: "2n", 256: "22q", 257: "1tq", 258: "S", 32769: "211h",
+    15: "2n", 16: "S", 17: "nn", 18: "2n", 19: "s", 20: "so", 21: "2n", 24: "R114TT2nb", 25: "211b", 26: "2nn",
+    27: "sss", 28: "A", 33: "222n", 35: "22sssn", 36: "2n", 37: "221b", 39: "n", 43: "211h", 44: "11h",
+    46: "R114TT2nb", 47: "nB", 48: "211b", 49: "b", 50: "112HXO", 51: "112H", 52: "111h", 53: "111h", 58: "nn",
+    59: "211h", 60: "211b", 61: "b", 62: "42O", 63: "411h", 99: "S", 105: "2a", 107: "2n", 256: "22q", 257: "1tq",
+    258: "S", 32769: "211h",
 }
-# Types whose data is shown after \# alone. RFC 1035 (NULL, WKS), 1183 (ISDN), 1706 (NSAP, NSAP-PTR), 1876 (LOC). 2535
-# (NXT), 3123 (APL), 4025 (IPSECKEY), 4034 (NSEC), 5155 (NSEC3), 8005 (HIP). 7477 (CSYNC), 9460 (SVCB, HTTPS), 6742
-# (NID, L64), 7043 (EUI48, EUI64). 2930 (TKEY), 8945 (TSIG), 8777 (AMTRELAY), and one for private use.
+# Types whose data is shown after \# alone. RFC 1035 (NULL, WKS), 1706 (NSAP, NSAP-PTR), 1876 (LOC). 2535
+# (NXT), 3123 (APL), 4025 (IPSECKEY), 8005 (HIP), 9460 (SVCB, HTTPS), 6742 (NID, L64), 7043 (EUI48, EUI64). 2930 (TKEY),
+# 8945 (TSIG), 8777 (AMTRELAY), and one for private use.
 OF_OCTETS = {
-    10: "*", 11: "*", 20: "so", 22: "*", 29: "*", 30: "n*", 42: "*", 45: "*", 47: "nB", 50: "112HXO", 55: "*",
-    62: "42B", 64: "2nP", 65: "2nP", 104: "28", 106: "28", 108: "6", 109: "8", 249: "n4422KK", 250: "n62K22K",
-    260: "*", 65280: "*",
+    10: "*", 11: "*", 22: "*", 29: "*", 30: "n*", 42: "*", 45: "*", 55: "*", 64: "2nP", 65: "2nP", 104: "28",
+    106: "28", 108: "6", 109: "8", 249: "n4422KK", 250: "n62K22K", 260: "*", 65280: "*",
 }
 # What a field of each kind is: a text and its octets, and texts that are none, after their fault.
 KINDS = {
@@ -423,6 +481,7 @@ KINDS = {
     "n": ((b"ns.Example.", b"\x02ns\x07Example\0"), "Name",
           (b"ns", b"a..b.", b'"a."', b"@", b"..", b"\\256.", b"a\\.")),
     "s": ((b'"a b"', b"\x03a b"), "CharString", (b'"a"b', b'a"b"', b"\\256", b'"\\25"', b"a" * 256)),
+    "o": ((b'"004"', b"\x03004"), "CharString", (b'"a"b', b'a"b"', b"\\256", b'"\\25"', b"a" * 256)),
     "S": ((b'"a b" "" "c"', b"\x03a b\0\x01c"), "CharString",
           (b'"a"b', b'a"b"', b"\\256", b'"\\25"', b"\\097" * 256)),
     "t": ((b"issue", b"\x05issue"), "Tag", (b"is-sue", b'"issue"', b"issu\\101", b"a" * 256, b'""')),
@@ -430,13 +489,14 @@ KINDS = {
     "h": ((b"0a0b0c", b"\x0a\x0b\x0c"), "Base16", (b"abc", b"0g", b'"ab"', b"-", b"0x0a")),
     "b": ((b"Zm9vYg==", b"foob"), "Base64", (b"Zg", b"Zh==", b"!", b'"Zm9v"', b"Zg=", b"Zm9v====", b"-_8=")),
     "H": ((b"aabb", b"\x02\xaa\xbb"), "CountedBase16", (b"abc", b"-a", b"--", b'"aa"', b"gg", b'""')),
+    "X": ((b"04106", b"\x03\x01\x02\x03"), "CountedBase32",
+          (b"0", b"01", b"0411", b"000", b"w0", b'"04"', b"-", b'""', b"04======", b"0" * 410)),
+    "B": ((b"A TYPE271", b"\0\x01\x40\x01\x02\0\x01"), "Rtype",
+          (b"TYPE65536", b"NONESUCH", b"1", b'"A"', b"\\A", b"TYPE", b"A.", b"-")),
+    "O": ((b"NS", b"\0\x01\x20"), "Rtype", (b"TYPE65536", b"NONESUCH", b"1", b'"A"', b"\\A", b"TYPE", b"A.", b"-")),
     "6": ((None, b"\x01\x02\x03\x04\x05\x06"), None, ()),
     "8": ((None, b"\x01\x02\x03\x04\x05\x06\x07\x08"), None, ()),
-    "o": ((None, b"\x03004"), None, ()),
-    "X": ((None, b"\x03\x01\x02\x03"), None, ()),
     "K": ((None, b"\0\x02ab"), None, ()),
-    "B": ((None, b"\0\x01\x40\x01\x02\x00\x01"), None, ()),
-    "O": ((None, b"\0\x01\x40"), None, ()),
     "P": ((None, b"\0\x01\0\x03\x02h2\0\x03\0\x02\x01\xbb"), None, ()),
     "*": ((None, b"\x01\x02\x03"), None, ()),
 }
@@ -454,7 +514,7 @@ MNEMONICS = {
 TYPES = {first + step: it for first, names in MNEMONICS.items() for step, it in enumerate(names.split())}
 SEED, DRAWN = 20261129, 4000
 # Types whose words have white space and marks about them.
-SPACED = (1, NS, SOA, HINFO, MX, TXT, AAAA, 35, DS, RRSIG, NSEC3PARAM, OPENPGPKEY, CAA)
+SPACED = (1, NS, SOA, HINFO, MX, TXT, AAAA, 35, DS, RRSIG, NSEC, NSEC3, NSEC3PARAM, OPENPGPKEY, CAA)
 
 
 def written(text):
@@ -502,8 +562,8 @@ def octets_of(fields):
 
 
 def text_of(fields):
-    """The texts of fields with a space between two."""
-    return b" ".join(text for text, _octets in fields)
+    """The texts of fields with a space between two; a field may have none."""
+    return b" ".join(text for text, _octets in fields if text)
 
 
 def all_types():
@@ -513,7 +573,8 @@ def all_types():
 
 def shown(rtype, fields):
     """The text of data of a type in class IN."""
-    return text_of(fields) if rtype in FIELDS and fields[-1][0] else generic(octets_of(fields))
+    is_written = all(text is not None for text, _octets in fields)
+    return text_of(fields) if is_written else generic(octets_of(fields))
 
 
 def example_rows():
@@ -546,13 +607,14 @@ def word_rows(rtype, kinds):
         before = b" ".join(texts[:place])
         at = len(before) + 1 if place else 0
         fault = (len(before), "MissingWord") if place == len(kinds) - 1 else None
-        yield read(rtype, b" ".join(texts[:place] + texts[place + 1:]), fault=fault)
+        octets = octets_of(fields[:place]) if kind in "oO" else None
+        yield read(rtype, b" ".join(texts[:place] + texts[place + 1:]), octets, fault=fault)
         yield read(rtype, b" ".join(texts[:place] + 2 * texts[place:place + 1] + texts[place + 1:]))
         for wrong in KINDS[kind][2]:
             changed = b" ".join(texts[:place] + [wrong] + texts[place + 1:])
             yield read(rtype, changed, fault=(at, KINDS[kind][1]))
     whole = text_of(fields)
-    extra = None if kinds[-1] in "Shb" else (len(whole) + 1, "ExtraWord")
+    extra = None if kinds[-1] in "ShbBO" else (len(whole) + 1, "ExtraWord")
     yield from (read(rtype, whole + b" " + it, fault=extra) for it in (b"00", b'""', b"x.", b"\\# 0", b"AA=="))
 
 
@@ -923,6 +985,16 @@ BASE64_TEXTS = (
 )
 
 
+HASH_TEXTS = (
+    b"0", b"1", b"00", b"01", b"02", b"03", b"04", b"08", b"0g", b"000", b"0000", b"0001", b"0008", b"000g", b"00000",
+    b"00001", b"00002", b"000000", b"0000000", b"0000001", b"0000004", b"0000008", b"00000000", b"000000000",
+    b"0000000000", b"0000000001", b"vvvvvvvv", b"VVVVVVVV", b"vs", b"vv", b"vvvg", b"vvvu", b"vvvvu", b"vvvvv",
+    b"vvvvvvo", b"vvvvvvs", b"wwwwwwww", b"W0", b"z0", b"Z0", b"/0", b":0", b"@0", b"[0", b"`0", b"{0", b"-0", b"--",
+    b"00==", b"00======", b"==", b"co======", b'""', b'"00"', b"\\00", b"\\0480", b"0\x800", b"0\0", b"00;", b"00 ;00",
+    b"0x00", b"CO", b"Co", b"cO",
+)
+
+
 SALT_TEXTS = (
     b"-", b"--", b"a", b"aa", b"aA", b"aab", b"aabb", b"aa bb", b"-aa", b"aa-", b"- -", b"", b'""', b'"-"', b"\\-",
     b"\\045", b"0x", b"gg", b"aa;bb", b"aa ;bb",
@@ -952,6 +1024,93 @@ def encoded_rows():
         yield from both(NSEC3PARAM, b"1 0 9 " + (salt.hex().encode() or b"-"), b"\x01\0\0\x09" + bytes([size]) + salt)
         yield read(NSEC3PARAM, b"1 0 9 " + salt.hex().upper().encode())
     yield read(NSEC3PARAM, b"1 0 9 " + b"aa" * 256, fault=(6, "CountedBase16"))
+
+
+def hash_text(octets):
+    """Octets as they are shown in base32hex (RFC 4648, 7; RFC 5155, 3.3)."""
+    return base64.b32hexencode(octets).rstrip(b"=").lower()
+
+
+def hash_rows():
+    """Octets in base32hex, each digit in each place, and words that have none (RFC 4648, 7; RFC 5155, 3.3)."""
+    front, before = b"1 0 9 - ", b"\x01\0\0\x09\0"
+    for text in HASH_TEXTS:
+        yield read(NSEC3, front + text)
+        yield read(NSEC3, front + text + b" NS")
+    for size in (*range(1, 22), 32, 63, 64, 128, 253, 254, 255):
+        for octets in (bytes(range(size)), bytes(range(251, 251 - size, -1)) if size < 252 else b"\xff" * size):
+            text = hash_text(octets)
+            whole = before + bytes([size]) + octets
+            yield from both(NSEC3, front + text, whole)
+            yield read(NSEC3, front + text.upper() + b" A", whole + b"\0\x01\x40")
+            yield from (read(NSEC3, front + text[:-1] + it) for it in (b"", b"1", b"v", b"=", b"w"))
+            yield read(NSEC3, front + text + b"0")
+    yield from (read(NSEC3, front + b"0" * it, fault=(8, "CountedBase32")) for it in (409, 410, 411, 416))
+    for octet in range(256):
+        word = bytes([octet])
+        yield from both(NSEC3, front + hash_text(word), before + b"\x01" + word)
+        for at in range(5):
+            octets = bytes(at) + word + bytes(4 - at)
+            yield show(NSEC3, before + b"\x05" + octets, front + hash_text(octets))
+        yield from (read(NSEC3, front + it) for it in (word + b"0000000", b"000" + word + b"0000", b"0000000" + word))
+    yield from (show(NSEC3, before + it) for it in (b"", b"\0", b"\0\0\x01\x40", b"\x02a", b"\xff" + bytes(254)))
+
+
+def bitmaps_of(types):
+    """The bitmaps of types (RFC 4034, 4.1.2)."""
+    windows = {}
+    for rtype in types:
+        bitmap = windows.setdefault(rtype // 256, bytearray(32))
+        bitmap[rtype % 256 // 8] |= 128 >> rtype % 8
+    shown = [(window, bytes(bitmap).rstrip(b"\0")) for window, bitmap in sorted(windows.items())]
+    return b"".join(bytes([window, len(bitmap)]) + bitmap for window, bitmap in shown)
+
+
+def types_text(types):
+    """Types as they are shown."""
+    return b" ".join((TYPES.get(it) or "TYPE%d" % it).encode() for it in sorted(types))
+
+
+# Sets of types: at the limits of octets, bitmaps and windows, and of several windows.
+TYPE_SETS = (
+    (0,), (1,), (7,), (8,), (15, 16), (0, 7, 8), (255,), (256,), (255, 256), (0, 255, 256, 511), (1, 46, 47),
+    (1, 2, 6, 15, 16, 28, 46, 47, 48), (257, 32768, 32769), (65280,), (65535,), (0, 65535), (32767, 32768),
+    (511, 512, 1023, 1024), tuple(range(256)), tuple(range(8, 16)), tuple(range(1, 65536, 255)), (248, 249, 250, 251),
+    (1, 513, 1025), tuple(256 * it for it in range(256)), tuple(range(240, 272)), (41, 249, 250, 251, 252, 253, 254),
+)
+# Blocks that no types have: empty, with zeros at the end, in another order, twice, too long, and cut (RFC 4034, 4.1.2).
+NO_BITMAPS = (
+    b"\0", b"\0\0", b"\0\x01", b"\0\x01\0", b"\0\x02\x40\0", b"\0\x02\0\0", b"\0\x02\x40", b"\0\x01\x40\0",
+    b"\0\x01\x40\0\x01\x20", b"\x01\x01\x40\0\x01\x40", b"\0\x21" + bytes(32) + b"\x01", b"\xff\x01\0",
+    b"\0\x20" + bytes(32), b"\0\x20\x40" + bytes(31), b"\0\x01\x40\x01\x01\0", b"\0\x01\0\x01\x01\x40",
+    b"\0\x01\x40\x01\0", b"\0\0\x01\x01\x40", b"\0\xff" + bytes(255), b"\0\x01\x40\x02\x02\x80\0",
+)
+
+
+def bitmap_rows():
+    """Types in bitmaps: each type alone, at limits, in any order, twice, by number, and blocks of no types (RFC 4034,
+    4.1.2 and 4.2)."""
+    hashed = (NSEC3, b"1 0 9 - 00", b"\x01\0\0\x09\0\x01\0")
+    fronts = ((NSEC, b".", b"\0"), hashed, (CSYNC, b"1 2", b"\0\0\0\x01\0\x02"))
+    for types in (*TYPE_SETS, *((it,) for it in (*range(300), *range(32760, 32776), *range(65272, 65290)))):
+        octets, text = bitmaps_of(types), types_text(types)
+        for rtype, front, before in fronts if types in TYPE_SETS else fronts[:1]:
+            yield from both(rtype, front + b" " + text, before + octets)
+        turned = b" ".join(reversed(text.split()))
+        yield read(NSEC, b". " + turned.lower(), b"\0" + octets)
+        yield read(NSEC, b". %s\t%s\n" % (text, turned), b"\0" + octets)
+        yield read(CSYNC, b"1 2 " + b" ".join(b"TYPE%d" % it for it in types), fronts[2][2] + octets)
+    for octets in NO_BITMAPS:
+        yield from (show(rtype, before + octets) for rtype, _front, before in fronts)
+        yield from (read(rtype, generic(before + octets)) for rtype, _front, before in fronts)
+    for at, octet in itertools.product((0, 5, 31), range(256)):
+        types = [8 * at + bit for bit in range(8) if octet & 128 >> bit]
+        octets = b"\0" + bytes([at + 1]) + bytes(at) + bytes([octet])
+        yield show(NSEC, b"\0" + octets, b". " + types_text(types) if octet else generic(b"\0" + octets))
+    for text in TYPE_TEXTS:
+        yield from (read(rtype, front + b" " + text) for rtype, front, _before in fronts)
+        yield read(NSEC, b". A " + text + b" MX")
+    yield from (show(rtype, before, front if rtype != NSEC else None) for rtype, front, before in fronts)
 
 
 def mnemonic_rows():
@@ -1094,16 +1253,9 @@ def drawn_plain(draw, kind):
     """A field of a kind without a text."""
     if kind in "68":
         return draw.randbytes(int(kind))
-    if kind in "oX":
-        octets = draw.randbytes(draw.choice([1, 5, 20]))
-        return bytes([len(octets)]) + octets
     if kind == "K":
         octets = draw.randbytes(draw.choice([0, 1, 16]))
         return struct.pack("!H", len(octets)) + octets
-    if kind in "BO":
-        windows = sorted(draw.sample(range(256), draw.choice([0, 1, 1, 2, 3]) or kind == "B"))
-        blocks = [(it, draw.randbytes(draw.choice([1, 2, 8, 32]))) for it in windows]
-        return b"".join(bytes([window, len(bits)]) + bits for window, bits in blocks)
     if kind == "P":
         keys = sorted(draw.sample(range(10, 65536), draw.choice([0, 1, 2, 3])))
         values = [(key, draw.randbytes(draw.choice([0, 1, 2, 7]))) for key in keys]
@@ -1128,8 +1280,10 @@ def drawn_field(draw, kind):
         return address_text(groups), struct.pack("!8H", *groups)
     if kind == "n":
         return drawn_name(draw)
-    if kind in "sS":
-        count = 1 if kind == "s" else draw.choice([1, 1, 2, 3])
+    if kind == "o" and draw.random() < 0.3:
+        return b"", b""
+    if kind in "soS":
+        count = 1 if kind in "so" else draw.choice([1, 1, 2, 3])
         strings = [drawn_octets(draw, draw.choice([4, 12, 40])) for _ in range(count)]
         return b" ".join(map(string_field, strings)), wire(strings)
     if kind == "t":
@@ -1142,7 +1296,32 @@ def drawn_field(draw, kind):
         octets = draw.randbytes(draw.choice([1, 2, 3, 8, 20, 32]))
         text = base64.b64encode(octets) if kind == "b" else octets.hex().encode()
         return text, (bytes([len(octets)]) if kind == "H" else b"") + octets
+    if kind == "X":
+        octets = draw.randbytes(draw.choice([1, 2, 3, 4, 5, 20, 20]))
+        return hash_text(octets), bytes([len(octets)]) + octets
+    if kind in "BO":
+        return drawn_types(draw, kind)
     return None, drawn_plain(draw, kind)
+
+
+def drawn_types(draw, kind):
+    """Types and their bitmaps, or bitmaps of which some have a zero at the end."""
+    if draw.random() < 0.2:
+        windows = sorted(draw.sample(range(256), draw.choice([1, 1, 2, 3])))
+        blocks = [(it, draw.randbytes(draw.choice([1, 2, 8, 31])) + draw.choice([b"\0", b"\x01"])) for it in windows]
+        octets = b"".join(bytes([window, len(bits)]) + bits for window, bits in blocks)
+        if not all(bits[-1] for _window, bits in blocks):
+            return None, octets
+        return types_text(types_in(blocks)), octets
+    count = draw.choice([1, 1, 2, 3, 8, 20] if kind == "B" else [0, 1, 1, 2, 3, 8])
+    types = {draw.choice([*TYPES, drawn_number(draw, 2)]) for _ in range(count)}
+    return types_text(types), bitmaps_of(types)
+
+
+def types_in(blocks):
+    """The types of blocks."""
+    return [256 * window + bit for window, bits in blocks for bit in range(8 * len(bits))
+            if bits[bit // 8] & 128 >> bit % 8]
 
 
 def spelled_octet(draw, octet, is_free):
@@ -1166,8 +1345,10 @@ def spelled(draw, kind, text, octets):
         return draw.choice([text.lower(), b"TYPE%d" % struct.unpack("!H", octets)[0], text])
     if kind == "A":
         return draw.choice([text.upper(), b":".join(b"%04x" % it for it in struct.unpack("!8H", octets)), text])
-    if kind in "hH" and draw.random() < 0.5:
+    if kind in "hHX" and draw.random() < 0.5:
         return text.upper()
+    if kind in "BO" and text:
+        return spelled_types(draw, text)
     if kind == "b" and draw.random() < 0.5:
         at = draw.randrange(len(text))
         return (text[:at] + b" " + text[at:]).strip()
@@ -1176,9 +1357,19 @@ def spelled(draw, kind, text, octets):
         return (text[:at] + b" " + text[at:]).strip()
     if kind == "n" and octets != b"\0" and draw.random() < 0.6:
         return spelled_name(draw, octets)
-    if kind == "s" and draw.random() < 0.6:
+    if kind in "so" and octets and draw.random() < 0.6:
         return spelled_string(draw, octets[1:])
     return text
+
+
+def spelled_types(draw, text):
+    """Types in another order, some by number, in lower case or twice."""
+    numbers = {name.encode(): rtype for rtype, name in TYPES.items()}
+    words = text.split()
+    draw.shuffle(words)
+    words += [draw.choice(words)] * draw.choice([0, 0, 1])
+    ways = [(it, it.lower(), b"TYPE%d" % numbers[it] if it in numbers else it) for it in words]
+    return b" ".join(draw.choice(it) for it in ways)
 
 
 def spelled_name(draw, octets):
@@ -1215,10 +1406,10 @@ def drawn_rows():
         if number % 2:
             yield show(rtype, changed(draw, octets)) if is_changed else show(rtype, octets, shown(rtype, fields))
             continue
-        if rtype in FIELDS and draw.random() < 0.9:
+        if all(text is not None for text, _octets in fields) and draw.random() < 0.9:
             spaces = draw.choice([[b" "], [b" "], [b" ", b"\t", b"  "], [b" ", b"\n", b"\r\n", b" ; c\n"]])
             words = [spelled(draw, kind, *field) for kind, field in zip(kinds, fields)]
-            text = b"".join(word + draw.choice(spaces) for word in words).strip(b" ")
+            text = b"".join(word + draw.choice(spaces) for word in words if word).strip(b" ")
         else:
             text = generic(octets)
         yield read(rtype, changed(draw, text)) if is_changed else read(rtype, text, octets)
@@ -1249,6 +1440,8 @@ def rows():
         ("points in time", time_rows),
         ("types by mnemonic and number", type_rows),
         ("base64, hexadecimal digits and salts", encoded_rows),
+        ("hashes in base32hex", hash_rows),
+        ("types in bitmaps", bitmap_rows),
         ("numbers by mnemonics", mnemonic_rows),
         ("quotes, backslashes and comments", string_rows),
         ("words, lines and columns", word_and_place_rows),

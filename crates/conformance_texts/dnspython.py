@@ -35,18 +35,21 @@ sys.dont_write_bytecode = True
 import data_rows
 
 IN, CHAOS, PRIVATE = 1, 3, 65280
-A, NS, SOA, HINFO, TXT, RP, X25, SIG, GPOS, AAAA, NAPTR, CERT = 1, 2, 6, 13, 16, 17, 19, 24, 27, 28, 35, 37
+A, NS, SOA, HINFO, TXT, RP, X25, ISDN, SIG, GPOS, AAAA, NAPTR, CERT = 1, 2, 6, 13, 16, 17, 19, 20, 24, 27, 28, 35, 37
 DS, RRSIG, DNSKEY, CDS, ZONEMD, SPF, URI, CAA, AVC, DLV = 43, 46, 48, 59, 63, 99, 256, 257, 258, 32769
-NXT, NSEC, OPENPGPKEY, CSYNC, SVCB, HTTPS, TSIG = 30, 47, 61, 62, 64, 65, 250
+NXT, NSEC, NSEC3, OPENPGPKEY, CSYNC, SVCB, HTTPS, TSIG = 30, 47, 50, 61, 62, 64, 65, 250
 # Types that dnspython doesn't know, and one with the same fields that it knows (RFC 1035, 3.3; RFC 2535, 3 and 4).
 SAME_FIELDS = {3: NS, 4: NS, 7: NS, 8: NS, 9: NS, 14: RP, SIG: RRSIG, 25: DNSKEY, 58: RP}
-# Types of character strings alone of which dnspython asks more, and how many these are (RFC 1035, 3.3.2; RFC 1712).
-OF_STRINGS = {HINFO: 2, X25: 1, GPOS: 3}
+# Types of character strings alone of which dnspython asks more, and how many these are (RFC 1035, 3.3.2; RFC 1183, 3;
+# RFC 1712).
+OF_STRINGS = {HINFO: (2,), X25: (1,), ISDN: (1, 2), GPOS: (3,)}
 # The strings of other types that dnspython takes for UTF-8, as it names them.
 OF_UTF8 = {NAPTR: ("flags", "service", "regexp"), URI: ("target",), CAA: ("value",)}
 # Types with a digest of which dnspython checks the length, by type, scheme and algorithm: which words these are, and
 # at which octets. Of UNCHECKED it checks none.
 CHECKED, UNCHECKED = {DS: ((2, 3),), CDS: ((2, 3),), DLV: ((2, 3),), ZONEMD: ((1, 4), (2, 5))}, 200
+# Types with bitmaps of types.
+OF_BITMAPS = (NSEC, NSEC3, CSYNC)
 # Types whose data is octets here, of which dnspython reads the fields.
 OF_OCTETS = (11, 29, 42, 45, 55, 260)
 # The mnemonics that dnspython doesn't have.
@@ -99,6 +102,14 @@ class Text(NamedTuple):
         if self.rtype not in data_rows.FIELDS or self.is_generic():
             return []
         return list(zip(data_rows.FIELDS[self.rtype], self.words() or []))
+
+    def places_of_types(self):
+        """Which of its words are types."""
+        kinds = "*" if self.is_generic() else data_rows.FIELDS.get(self.rtype, "*")
+        count = len(self.words() or [])
+        if kinds[0] == "R":
+            return range(min(count, 1))
+        return range(len(kinds) - 1, count) if kinds[-1] in "BO" else range(0)
 
     def with_words(self, words):
         """The same text with other words, None where they are the same ones."""
@@ -192,11 +203,35 @@ def without_zeros(text):
     return text.with_words(words) if fields and words != text.words() else None
 
 
-def type_by_number(text):
-    """The type that is a field by its number, where dnspython doesn't have its mnemonic."""
-    fields = text.with_kinds()
-    number = OTHER_TYPES.get(fields[0][1].decode("latin-1").upper()) if fields and fields[0][0] == "R" else None
-    return text.with_words([b"TYPE%d" % number] + text.words()[1:]) if number is not None else None
+def types_by_number(text):
+    """Types by their numbers, where dnspython doesn't have their mnemonics."""
+    words = text.words() or []
+    for place in text.places_of_types():
+        number = OTHER_TYPES.get(words[place].decode("latin-1").upper())
+        words[place] = b"TYPE%d" % number if number is not None else words[place]
+    return text.with_words(words) if words != (text.words() or []) else None
+
+
+def without_type_0(text):
+    """Bitmaps without type 0, and the octets with it."""
+    words, places = text.words() or [], text.places_of_types()
+    kept = [it for place, it in enumerate(words) if place not in places or type_of(it) != 0]
+    if text.rtype not in OF_BITMAPS or kept == words:
+        return None
+    front = text._replace(octets=b" ".join(words[:places.start]))
+    def put_back(octets):
+        at = len(front.answer())
+        if octets[at:at + 1] != b"\0":
+            return octets[:at] + b"\0\x01\x80" + octets[at:]
+        return octets[:at + 2] + bytes([octets[at + 2] | 0x80]) + octets[at + 3:]
+    return text._replace(octets=b" ".join(kept), back=(*text.back, put_back))
+
+
+def with_padding(text):
+    """A hash with padding."""
+    words = [it + b"=" * (-len(it) % 8) if kind == "X" and b"=" not in it else it for kind, it in text.with_kinds()]
+    words += (text.words() or [])[len(words):]
+    return text.with_words(words) if text.rtype == NSEC3 and words != (text.words() or []) else None
 
 
 def octets_after_mark(text):
@@ -240,7 +275,7 @@ def strings_alone(text):
         count = count_of_strings(octets_after_mark(text) or b"")
     else:
         count = len(text.words() or [])
-    return text._replace(rtype=TXT) if count == OF_STRINGS.get(text.rtype) else None
+    return text._replace(rtype=TXT) if count in OF_STRINGS.get(text.rtype, ()) else None
 
 
 def count_of_strings(octets):
@@ -289,6 +324,15 @@ def without_error_in_text(text):
     return text._replace(octets=b" ".join(words), back=text.back + back)
 
 
+def service_mode_in_text(text):
+    """Parameters after a priority of 0 as after one of 1, and the octets with 0."""
+    octets = octets_after_mark(text) if text.rtype in (SVCB, HTTPS) and text.is_generic() else None
+    if not octets or octets[:2] != b"\0\0":
+        return None
+    said = (b"\0\x01" + octets[2:]).hex().encode()
+    return text._replace(octets=b" ".join(text.words()[:2] + [said]), back=(*text.back, put_in(1, 0)))
+
+
 # What dnspython takes otherwise in texts: what it is, the RFC by which it is so here, and how it is said to dnspython.
 TEXT_TURNS = (
     ("ends of lines and carriage returns are white space", "RFC 1035, 5.1", spelled),
@@ -297,18 +341,21 @@ TEXT_TURNS = (
     ("NAPTR is of every class", "RFC 3403, 4.1", in_internet),
     ("WKS, LOC, APL, IPSECKEY, HIP, AMTRELAY and A in CHAOS are octets", "RFC 3597, 5", as_octets),
     ("numbers of addresses and seconds may have zeros before them", "RFC 1035, 3.4.1; RFC 4034, 3.2", without_zeros),
-    ("mnemonics of types that dnspython doesn't have", "RFC 1035, 3.2.3; RFC 6895, 3.1", type_by_number),
+    ("mnemonics of types that dnspython doesn't have", "RFC 1035, 3.2.3; RFC 6895, 3.1", types_by_number),
     ("the length of a digest isn't checked", "RFC 4034, 5.1.4; RFC 8976, 2.2.4", other_digest),
-    ("strings of HINFO, X25 and GPOS are any octets", "RFC 1035, 3.3; RFC 1712, 3", strings_alone),
+    ("strings of HINFO, X25, ISDN and GPOS are any octets", "RFC 1035, 3.3; RFC 1183, 3; RFC 1712, 3", strings_alone),
     ("strings of NAPTR, URI and CAA are octets and not characters", "RFC 3403, 4.1; RFC 7553, 4.4; RFC 8659, 4.1",
      not_utf8),
     ("that a target isn't empty isn't asked", "RFC 7553, 4.4", some_target),
     ("the error of TSIG is any number", "RFC 8945, 4.2", without_error_in_text),
+    ("parameters in AliasMode are ignored", "RFC 9460, 2.4.2", service_mode_in_text),
+    ("a hash has no padding", "RFC 5155, 3.3", with_padding),
+    ("bitmaps have any type, 0 too", "RFC 3597, 5", without_type_0),
 )
 
 
 def as_any_data(data):
-    """As data of any type, where the type has a field without a text, or the last field is empty."""
+    """As data of any type, where a field has no text, the last field is empty, or bitmaps end in zeros."""
     return data._replace(is_generic=True, back=(*data.back, bytes.rstrip)) if not data.is_generic else None
 
 
@@ -333,12 +380,17 @@ def seconds(data):
 
 
 def types_by_mnemonic(data):
-    """The type that is a field by its mnemonic, where dnspython doesn't have it."""
-    if data.rtype not in (SIG, RRSIG):
+    """Types by their mnemonics, where dnspython doesn't have these."""
+    if data.rtype not in (SIG, RRSIG, *OF_BITMAPS):
         return None
     names = {b"TYPE%d" % number: name.encode() for name, number in OTHER_TYPES.items() if name != "*"}
     names[b"NSAP_PTR"] = b"NSAP-PTR"
-    return data.changed(lambda text: re.sub(rb"^\S+", lambda it: names.get(it[0], it[0]), text))
+    return data.changed(lambda text: re.sub(rb"(?:^|(?<= ))\S+", lambda it: names.get(it[0], it[0]), text))
+
+
+def hash_without_padding(data):
+    """A hash without padding."""
+    return data.changed(lambda text: text.replace(b"=", b"")) if data.rtype == NSEC3 else None
 
 
 def certificate_numbers(data):
@@ -378,7 +430,7 @@ def other_digest_of_data(data):
 def strings_alone_of_data(data):
     """The same as of TXT, where the strings are as many as those of the type."""
     count = count_of_strings(data.message[data.begin:])
-    return data._replace(rtype=TXT) if count == OF_STRINGS.get(data.rtype) else None
+    return data._replace(rtype=TXT) if count in OF_STRINGS.get(data.rtype, ()) else None
 
 
 def target_as_value(data):
@@ -435,7 +487,8 @@ def one_pointer(data):
 # What dnspython takes or shows otherwise of octets: what it is, the RFC by which it is so here, and how it is said.
 DATA_TURNS = (
     *TEXT_TURNS[2:5],
-    ("data with a field without a text, or whose last field is empty, is octets", "RFC 3597, 5", as_any_data),
+    ("data with a field without a text, an empty last field, or bitmaps that end in zeros, is octets",
+     "RFC 3597, 5; RFC 4034, 4.1.2", as_any_data),
     ("a space in a name is behind a backslash", "RFC 1035, 5.1", spaces_in_names),
     ("times are shown as seconds", "RFC 4034, 3.2", seconds),
     TEXT_TURNS[6][:2] + (types_by_mnemonic,),
@@ -448,6 +501,7 @@ DATA_TURNS = (
     ("a name is read through at most 255 pointers, there through at most 16", "RFC 1035, 4.1.4", one_pointer),
     ("parameters in AliasMode are ignored", "RFC 9460, 2.4.2", service_mode),
     ("the error of TSIG is any number", "RFC 8945, 4.2", without_error),
+    ("a hash has no padding", "RFC 5155, 3.3", hash_without_padding),
 )
 
 
@@ -484,7 +538,7 @@ class Refusal(NamedTuple):
         return self.reason == self.due and self.reason in OF_DIGITS
 
 
-OF_DIGITS = ("Number", "Time", "Rtype", "Ipv4", "Ipv6", "Tag", "Base16", "CountedBase16", "Base64")
+OF_DIGITS = ("Number", "Time", "Rtype", "Ipv4", "Ipv6", "Tag", "Base16", "CountedBase16", "CountedBase32", "Base64")
 
 
 def refusal_of(row, answer):
@@ -512,12 +566,34 @@ def is_canonical(text):
         return False
 
 
+def is_hash(word):
+    """Whether a word is that of octets in base32hex without padding, in either case."""
+    upper = word.upper()
+    try:
+        return base64.b32hexencode(base64.b32hexdecode(upper + b"=" * (-len(upper) % 8))).rstrip(b"=") == upper
+    except ValueError:
+        return False
+
+
+def has_empty_hash(row):
+    """Whether data of NSEC3 has a hash without octets."""
+    data = in_message(row)
+    octets = data.message[data.begin:]
+    return row.rtype == NSEC3 and len(octets) > 4 and octets[5 + octets[4]:][:1] == b"\0"
+
+
 def is_date(word):
     """Whether a word is a date and a time of day."""
     try:
         return bool(time.strptime(word.decode(), "%Y%m%d%H%M%S")) and word[-2:] < b"60"
     except ValueError:
         return False
+
+
+def is_refused_on_one_line(row):
+    """Whether a text has several lines, and is refused when it has one."""
+    joined = re.sub(rb"(?:;[^\n]*)?\n", b" ", row.octets)
+    return joined != row.octets and row._replace(octets=joined).answer() is None
 
 
 def in_message(row):
@@ -545,6 +621,8 @@ def has_no_name(row):
 ONE_SIDED = (
     ("the lines of an entry are joined before: a parenthesis is refused", "RFC 1035, 5.1",
      lambda it: it.reason == "Parenthesis" and it.rest[:1] in (b"(", b")")),
+    ("a text is read past the ends of its lines", "RFC 1035, 5.1",
+     lambda it: it.reason in ("OpenQuote", "LoneBackslash") and is_refused_on_one_line(it.row)),
     ("data of this type is read after \\# alone", "RFC 3597, 5",
      lambda it: it.reason == "OnlyGeneric" and not it.row.is_generic()
      and (it.row.rtype in data_rows.OF_OCTETS or (it.row.rtype, it.row.rclass) == (A, CHAOS))),
@@ -572,7 +650,13 @@ ONE_SIDED = (
     ("there is one string or more", "RFC 1035, 3.3.14; RFC 7208, 3.1",
      lambda it: it.reason in ("NotData", "ShortInput") and it.row.rtype in (TXT, SPF, AVC) and it.row.answer() == b""),
     ("there is one block of a bitmap or more", "RFC 4034, 4.1.2",
-     lambda it: it.reason in ("NotData", "ShortInput") and has_no_bitmap(it.row)),
+     lambda it: it.reason in ("NotData", "ShortInput") and has_no_bitmap(it.row)
+     or it.reason == "MissingWord" and it.row.rtype == NSEC),
+    ("a hash has one octet or more", "RFC 5155, 3.2",
+     lambda it: it.reason in ("NotData", "EmptyHash") and has_empty_hash(it.row)),
+    ("base32hex has no padding, no other octets, and zeros after the last bit",
+     "RFC 4648, 3.3, 3.5 and 7; RFC 5155, 3.3",
+     lambda it: it.reason == it.due == "CountedBase32" and not is_hash(it.word)),
     ("the name of NXT is read", "RFC 2535, 5.2",
      lambda it: it.reason.split("/")[0] in ("NotData", "Name") and has_no_name(it.row)),
 )

@@ -6,9 +6,9 @@
 A second reader and writer of record data, written from the standards: RFC 1035 (3.1, 3.3, 4.1.4 and 5.1) for names,
 character strings, numbers and words; RFC 3597 (4 and 5) for data of any type and for the names of types; RFC 4291
 (2.2) and 5952 (4) for IPv6 addresses; RFC 4034 (3.2 and 4.1.2) for points in time and bitmaps of types; RFC 4648
-(4 and 8) for base64 and hexadecimal digits; RFC 5155 (3.2 and 3.3) for salts and hashes; RFC 8659 (4.1) for tags; RFC
-9460 (2.2) for service parameters; and the RFC of each type, which is beside its line of `FIELDS`. Where these leave a
-choice, it is that of the pages of `domain_rdata_text` and `domain_descriptor`.
+(4, 7 and 8) for base64, base32hex and hexadecimal digits; RFC 5155 (3.2 and 3.3) for salts and hashes; RFC 8659 (4.1)
+for tags; RFC 9460 (2.2) for service parameters; and the RFC of each type, which is beside its line of `FIELDS`. Where
+these leave a choice, it is that of the pages of `domain_rdata_text` and `domain_descriptor`.
 """
 import base64
 import binascii
@@ -328,6 +328,18 @@ def salt_octets(word):
     return b"\0" if word == b"-" else counted(hex_octets(word))
 
 
+def hash_octets(word):
+    """Returns the octets that digits in base32hex are, five bits in each, behind their number (RFC 4648, 7; RFC 5155,
+    3.3). The bits after the last octet are zeros, and fewer than a digit has."""
+    if not re.fullmatch(rb"[0-9A-Va-v]+", word):
+        return None
+    size, spare = divmod(5 * len(word), 8)
+    number = int(word, 32)
+    if spare >= 5 or number % 2 ** spare:
+        return None
+    return counted((number >> spare).to_bytes(size, "big"))
+
+
 # How a field that is one word is read, and the reason where the word isn't such a field
 WORD_FORMS = {
     "Number8": (lambda word: number_octets(word, 1), "Number"),
@@ -341,9 +353,11 @@ WORD_FORMS = {
     "Ipv6": (ipv6_octets, "Ipv6"),
     "Name": (name_octets, "Name"),
     "CharString": (string_octets, "CharString"),
+    "OptionalString": (string_octets, "CharString"),
     "Tag": (tag_octets, "Tag"),
     "QuotedText": (text_octets, "QuotedText"),
     "CountedBase16": (salt_octets, "CountedBase16"),
+    "CountedBase32": (hash_octets, "CountedBase32"),
 }
 
 
@@ -371,15 +385,44 @@ def read_base64(words):
     return octets
 
 
+def bitmaps_of(types):
+    """Returns the blocks of a set of types: for each window with a type its number, the length of its bitmap, and the
+    bitmap up to its last octet that isn't zero (RFC 4034, 4.1.2)."""
+    blocks = b""
+    for window in sorted({rtype // 256 for rtype in types}):
+        places = [rtype % 256 for rtype in types if rtype // 256 == window]
+        bits = sum(1 << 255 - place for place in places)
+        bitmap = bits.to_bytes(32, "big").rstrip(b"\0")
+        blocks += bytes([window, len(bitmap)]) + bitmap
+    return blocks
+
+
+def read_types(words):
+    """Returns the bitmaps of the types that words are, in any order (RFC 4034, 4.2)."""
+    types = set()
+    for begin, word in words:
+        number = type_of(word)
+        if number is None:
+            raise Refused(begin, "Rtype")
+        types.add(number)
+    return bitmaps_of(types)
+
+
 END_FORMS = {
     "CharStrings": lambda words: read_each(words, string_octets, "CharString"),
     "Base16": lambda words: read_each(words, hex_octets, "Base16"),
     "Base64": read_base64,
+    "TypeBitmaps": read_types,
+    "OptionalTypeBitmaps": read_types,
 }
+# Kinds of which a field may have no word.
+ABSENT = ("OptionalString", "OptionalTypeBitmaps")
 
 
 def read_field(kind, words):
     """Returns the octets of the field that words begin with, and the words after it."""
+    if not words and kind in ABSENT:
+        return b"", []
     begin, word = words[0]
     if kind in END_FORMS:
         return END_FORMS[kind](words), []
@@ -415,7 +458,7 @@ def read(rtype, rclass, text):
         return read_generic(rtype, rclass, words, len(text))
     data = []
     for kind in kinds_of(rtype, rclass):
-        if not words:
+        if not words and kind not in ABSENT:
             raise Refused(len(text), "MissingWord")
         octets, words = read_field(kind, words)
         data.append(octets)
@@ -638,25 +681,62 @@ def show_ipv6(octets):
     return b"::".join(b":".join(b"%x" % it for it in side) for side in sides)
 
 
+def show_hash(octets):
+    """Returns the digits in base32hex of octets behind their number, in lower case and without padding (RFC 4648, 7;
+    RFC 5155, 3.3)."""
+    count = (8 * octets[0] + 4) // 5
+    number = int.from_bytes(octets[1:], "big") << 5 * count - 8 * octets[0]
+    return bytes(b"0123456789abcdefghijklmnopqrstuv"[number >> 5 * at & 31] for at in reversed(range(count)))
+
+
+def blocks_in(octets):
+    """Returns the window and the bitmap of each block."""
+    blocks, at = [], 0
+    while at < len(octets):
+        end = at + 2 + octets[at + 1]
+        blocks.append((octets[at], octets[at + 2:end]))
+        at = end
+    return blocks
+
+
+def show_types(octets):
+    """Returns the types of bitmaps, in the order of their numbers, with a space between two (RFC 4034, 4.2)."""
+    types = [
+        256 * window + place
+        for window, bitmap in blocks_in(octets)
+        for place in range(8 * len(bitmap)) if bitmap[place // 8] >> 7 - place % 8 & 1
+    ]
+    return b" ".join(show_rtype(it.to_bytes(2, "big")) for it in types)
+
+
 # How a field of each kind is written. A kind that isn't here has no form of its own.
 SHOWN = {
     "Number8": show_number, "Number16": show_number, "Number32": show_number, "Ttl": show_number,
     "Serial": show_number, "Time": show_number, "Rtype": show_rtype, "Ipv4": show_ipv4, "Ipv6": show_ipv6,
-    "Name": show_name, "CharString": show_strings, "CharStrings": show_strings, "QuotedText": show_text,
-    "Tag": lambda octets: octets[1:], "Base16": binascii.hexlify, "Base64": base64.b64encode,
-    "CountedBase16": lambda octets: binascii.hexlify(octets[1:]) or b"-",
+    "Name": show_name, "CharString": show_strings, "OptionalString": show_strings, "CharStrings": show_strings,
+    "QuotedText": show_text, "Tag": lambda octets: octets[1:], "Base16": binascii.hexlify, "Base64": base64.b64encode,
+    "CountedBase16": lambda octets: binascii.hexlify(octets[1:]) or b"-", "CountedBase32": show_hash,
+    "TypeBitmaps": show_types, "OptionalTypeBitmaps": show_types,
 }
 # Kinds of which a field without octets has no word.
 WITHOUT_WORD = ("Base16", "Base64")
+
+
+def is_shown(kind, octets):
+    """Returns whether a field has a text. One without octets has none, nor have bitmaps that end in a zero octet, which
+    RFC 4034, 4.1.2, has to be omitted."""
+    if "TypeBitmaps" in kind:
+        return all(bitmap[-1] for _window, bitmap in blocks_in(octets))
+    return kind in SHOWN and (octets or kind not in WITHOUT_WORD)
 
 
 def show(rtype, rclass, message, begin):
     """Returns the text of the data that a message has from an offset on, up to its end (RFC 1035, 5.1; RFC 3597, 5)."""
     kinds = kinds_of(rtype, rclass)
     fields = fields_at(kinds, message, begin)
-    is_empty = kinds[-1] in WITHOUT_WORD and not fields[-1]
-    if not is_empty and all(kind in SHOWN for kind in kinds):
-        return b" ".join(SHOWN[kind](octets) for kind, octets in zip(kinds, fields))
+    if all(is_shown(*it) for it in zip(kinds, fields)):
+        texts = [SHOWN[kind](octets) for kind, octets in zip(kinds, fields)]
+        return b" ".join(it for it in texts if it)
     octets = b"".join(fields)
     return b" ".join([GENERIC, b"%d" % len(octets)] + ([binascii.hexlify(octets)] if octets else []))
 

@@ -45,6 +45,8 @@ fn call_on_message(word: &[u8], octets: &[u8], offset: usize, end: usize, out: &
         put_skip(out, octets, offset, end);
     } else if is(word, b"nparse") {
         put_nparse(out, octets, offset, end);
+    } else if is(word, b"walk") {
+        put_walk(out, octets, offset, end);
     } else {
         return false;
     }
@@ -61,9 +63,7 @@ fn answer_offset(fields: &Fields<'_>, out: &Answer) -> bool {
 
 /// The calls of `answer_offset`, by the word: false where it names none of them.
 fn call_at_offset(word: &[u8], octets: &[u8], offset: usize, out: &Answer) -> bool {
-    if is(word, b"walk") {
-        put_walk(out, octets, offset);
-    } else if is(word, b"parentswalk") {
+    if is(word, b"parentswalk") {
         put_parentswalk(out, octets, offset);
     } else if is(word, b"pforms") {
         put_parsed_forms(out, octets, offset);

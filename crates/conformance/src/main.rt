@@ -16,22 +16,23 @@ mod slow_reader;
 
 use crate::command::answer_parsed;
 use crate::program::put_run;
-use conformance_labels::{Answer, Fail, Fields, answer_labels, is_heading};
+use conformance_labels::{Answer, Fail, Fields, Table, answer_labels, answer_table};
 use conformance_names::{answer_names, answer_texts};
-use std::alloc::{AllocError, Global};
-use std::io::{Read, Write};
 use std::process::ExitCode;
 
-/// Answers a line.
-fn respond(line: &[u8], out: &Answer) {
-    let fields = &Fields::new(line);
-    let is_answered = answer_parsed(fields, out)
-        || answer_texts(fields, out)
-        || answer_names(fields, out)
-        || answer_labels(fields, out)
-        || answer_run(fields, out);
-    if !is_answered {
-        out.fail(Fail::Bad);
+struct CallTable;
+
+impl Table for CallTable {
+    fn respond(line: &[u8], out: &Answer) {
+        let fields = &Fields::new(line);
+        let is_answered = answer_parsed(fields, out)
+            || answer_texts(fields, out)
+            || answer_names(fields, out)
+            || answer_labels(fields, out)
+            || answer_run(fields, out);
+        if !is_answered {
+            out.fail(Fail::Bad);
+        }
     }
 }
 
@@ -45,36 +46,6 @@ fn answer_run(fields: &Fields<'_>, out: &Answer) -> bool {
     true
 }
 
-/// Answers each line of the input. A line that begins with `#` is a heading, and its own answer.
-fn answer_all(alloc: Global, input: &[u8], out: &mut Vec<u8>) -> Result<(), AllocError> {
-    let answer = Answer::new(alloc);
-    for line in input.split(|octet| *octet == b'\n') {
-        if line.is_empty() {
-            continue;
-        }
-        answer.clear();
-        if is_heading(line) {
-            answer.put(line);
-        } else {
-            respond(line, &answer);
-        }
-        answer.end_line(out)?;
-    }
-    Ok(())
-}
-
 fn main(rt: HostRuntime) -> ExitCode {
-    let alloc = rt.alloc();
-    let mut input = Vec::new(alloc);
-    if rt.stdin().read_to_end(&mut input).is_err() {
-        return ExitCode::from(3);
-    }
-    let mut out = Vec::new(alloc);
-    if answer_all(alloc, input.as_slice(), &mut out).is_err() {
-        return ExitCode::from(3);
-    }
-    match rt.stdout().write_all(out.as_slice()) {
-        Ok(()) => ExitCode::from(0),
-        Err(_) => ExitCode::from(3),
-    }
+    answer_table::<CallTable>(&rt)
 }

@@ -186,8 +186,8 @@ pub fn put_nparse(out: &Answer, message: &[u8], offset: usize, end: usize) {
     }
 }
 
-pub fn put_walk(out: &Answer, message: &[u8], offset: usize) {
-    let Some(mut parser) = parser_at(message, offset, message.len()) else {
+pub fn put_walk(out: &Answer, message: &[u8], offset: usize, end: usize) {
+    let Some(mut parser) = parser_at(message, offset, end) else {
         return out.fail(Fail::Bad);
     };
     match ParsedName::parse(&mut parser) {
@@ -208,11 +208,12 @@ fn put_walked(out: &Answer, name: &ParsedName<&[u8]>) {
     put_numbers(out, name);
 }
 
-/// The flag and the flat wire format of a name in a message.
+/// The flag and the flat wire format of a name in a message, which has as many octets as the name tells.
 fn put_part_of(out: &Answer, name: &ParsedName<&[u8]>) {
     let Some(flat) = flat_of(out, name) else {
         return;
     };
+    out.agree(name.compose_len() as usize == flat.len(), b"compose_len");
     out.put(if name.is_compressed() { b"c" } else { b"f" });
     out.put_hex(flat.as_slice());
 }

@@ -1,7 +1,7 @@
 //! Record data, and the names of addresses.
 
 use arrayvec::ArrayVec;
-use conformance_labels::{Answer, Fail};
+use conformance_labels::{Answer, Fail, length_of};
 use domain_rdata::{
     ComposeRecordData, Composer, LongRecordData, ParseRecordData, RecordData, Rtype,
     UnknownRecordData,
@@ -75,7 +75,7 @@ fn is_copied_in_an_array(out: &Answer, data: Data<'_>) {
     }
 }
 
-/// The canonical form, and a reference to the data, are composed to the same octets.
+/// The canonical form, and a reference to the data on a reference to a target, are composed to the same octets.
 fn is_composed_alike(out: &Answer, data: Data<'_>, wanted: &[u8]) {
     let mut composed: Vec<u8> = Vec::new(out.alloc());
     if data.compose_canonical_len_rdata(&mut composed).is_err() {
@@ -83,10 +83,23 @@ fn is_composed_alike(out: &Answer, data: Data<'_>, wanted: &[u8]) {
     }
     out.same(composed.as_slice(), wanted, b"compose_canonical_len_rdata");
     let mut composed: Vec<u8> = Vec::new(out.alloc());
-    if (&data).compose_len_rdata(&mut composed).is_err() {
+    append(out, &&data, &mut &mut composed);
+    out.same(composed.as_slice(), wanted, b"compose_len_rdata");
+}
+
+/// Appends data of any type to a target of any kind. Where these are references, their own calls are made.
+fn append<D: ComposeRecordData, T: Composer>(out: &Answer, data: &D, target: &mut T) {
+    out.agree_all(
+        b"rtype;can_compress;rdlen",
+        &[
+            data.rtype().to_int() == PRIVATE,
+            !target.can_compress(),
+            data.rdlen(false).is_some(),
+        ],
+    );
+    if data.compose_len_rdata(target).is_err() {
         out.fail(Fail::Memory);
     }
-    out.same(composed.as_slice(), wanted, b"compose_len_rdata");
 }
 
 /// The length that is told is that of what is composed.
@@ -214,15 +227,11 @@ fn is_refused(out: &Answer, octets: &[u8], error: LongRecordData) {
     out.agree(parser.pos() == 0, b"parse_any_rdata");
 }
 
-fn number_of(digits: &[u8]) -> Option<usize> {
-    str::from_utf8(digits).ok()?.parse::<usize>().ok()
-}
-
 /// `lengths LEN,LEN,LEN`: parts of record data of these lengths.
 pub fn put_lengths(out: &Answer, fields: &[u8]) {
     let mut lens = ArrayVec::<usize, 3>::new();
     for field in fields.split(|octet| *octet == b',') {
-        match number_of(field) {
+        match length_of(field) {
             Some(len) if lens.try_push(len).is_ok() => {}
             _ => out.fail(Fail::Bad),
         }

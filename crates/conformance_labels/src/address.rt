@@ -44,7 +44,7 @@ fn segments_of(octets: [u8; 16]) -> [u16; 8] {
 fn put_ipv6(out: &Answer, octets: [u8; 16]) {
     let segments = segments_of(octets);
     out.put(b"v6 ");
-    put_segments(out, segments);
+    put_segments(out, segments, octets);
     out.agree_all(
         b"from;from",
         &[
@@ -54,12 +54,14 @@ fn put_ipv6(out: &Answer, octets: [u8; 16]) {
     );
 }
 
-fn put_segments(out: &Answer, segments: [u16; 8]) {
+/// The address of segments, which has these octets.
+fn put_segments(out: &Answer, segments: [u16; 8], octets: [u8; 16]) {
     let address = of_segments(&segments);
     put_composed(out, &address, 16);
     out.agree_all(
-        b"from;from",
+        b"octets;from;from",
         &[
+            address.octets() == octets,
             Ipv6Addr::from(segments) == address,
             IpAddr::from(segments) == IpAddr::V6(address),
         ],

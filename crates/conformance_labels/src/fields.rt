@@ -1,4 +1,5 @@
 //! The fields of a line.
+ghost use Rattle.std.specs.Prelude.{◌≤◌};
 
 use crate::answer::{Answer, Fail};
 use std::alloc::Global;
@@ -70,6 +71,11 @@ impl<'a> Fields<'a> {
                 0
             }
         }
+    }
+
+    /// A decimal number of 16 bits, as a type or a class. If the field is none, that is noted.
+    pub fn number16(&self, offset: usize, out: &Answer) -> u16 {
+        number_up_to(out, self.at(offset), 65535) as u16
     }
 }
 
@@ -143,6 +149,12 @@ fn push_digits(octets: &mut Vec<u8>, digits: &[u8]) -> Result<(), Fail> {
     Ok(())
 }
 
+/// A length, which can be larger than the numbers that `decimal` reads.
+pub fn length_of(field: &[u8]) -> Option<usize> {
+    str::from_utf8(field).ok()?.parse::<usize>().ok()
+}
+
+/// A decimal number of at most 15 digits.
 pub fn decimal(field: &[u8]) -> Result<usize, Fail> {
     if field.is_empty() || field.len() > 15 {
         return Err(Fail::Bad);
@@ -156,6 +168,22 @@ pub fn decimal(field: &[u8]) -> Result<usize, Fail> {
         number = number.saturating_mul(10).saturating_add(usize::from(value));
     }
     Ok(number)
+}
+
+/// A decimal number up to this one. If the field is none, that is noted.
+pub fn number_up_to(out: &Answer, field: &[u8], most: usize) -> usize
+    ensures { result ≤ most }
+{
+    match decimal(field) {
+        Ok(number) => {
+            if number <= most {
+                return number;
+            }
+            out.fail(Fail::Bad);
+        }
+        Err(fail) => out.fail(fail),
+    }
+    0
 }
 
 fn digit_value(digit: u8) -> Option<u8> {

@@ -5,9 +5,8 @@ use conformance_labels::{Answer, Fail};
 use domain_compress::CompressComposer;
 use domain_data::{A, Aaaa, Cname, Dname, Mx, Ns, Ptr, Soa, Srv};
 use domain_header::HeaderSection;
-use domain_message::{Message, RecordSection};
+use domain_message::{Message, ParsedRecord, Record, RecordSection};
 use domain_rdata::{ComposeRecordData, Composer, ParseRecordData, UnknownRecordData};
-use domain_record::{ParsedRecord, Record};
 use domain_wire::ParseError;
 use octseq::{Octets, OctetsBuilder};
 

@@ -20,14 +20,13 @@ pub fn put_name(out: &Answer, word: &[u8], name: &Read<'_>) {
 /// `data TYPE OCTETS OFFSET LENGTH`: asks each type of data. `typed` with the same words asks the types with strings,
 /// keys and the like, and `any` reads data of any type.
 pub fn put_data(out: &Answer, fields: &Fields<'_>) {
-    let rtype = fields.number(1, out);
+    let rtype = Rtype::from_int(fields.number16(1, out));
     let octets = fields.octets(2, out);
     let offset = fields.number(3, out);
     let end = offset.saturating_add(fields.number(4, out));
-    if rtype > 65535 || end > octets.len() || offset > end {
+    if end > octets.len() || offset > end {
         return out.fail(Fail::Bad);
     }
-    let rtype = Rtype::from_int(rtype as u16);
     let parser = &Parser::with_range(octets.as_slice(), offset..end);
     if is(fields.at(0), b"any") {
         return put_any(out, rtype, parser);

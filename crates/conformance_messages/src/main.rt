@@ -22,36 +22,37 @@ use crate::order::put_order;
 use crate::rebuild::put_rebuilt;
 use crate::select::{put_is_answer, put_limited};
 use crate::text::put_from_text;
-use conformance_labels::{Answer, Fail, Fields, is, is_heading};
-use std::alloc::{AllocError, Global};
-use std::io::{Read, Write};
+use conformance_labels::{Answer, Fail, Fields, Table, answer_table, is};
 use std::process::ExitCode;
 
-/// Answers a line.
-fn respond(line: &[u8], out: &Answer) {
-    let fields = &Fields::new(line);
-    let word = fields.at(0);
-    if is(word, b"data") || is(word, b"any") || is(word, b"typed") {
-        fields.expect(5, out);
-        put_data(out, fields);
-    } else if is(word, b"order") {
-        fields.expect(5, out);
-        put_order(out, fields);
-    } else if is(word, b"write") {
-        fields.expect(3, out);
-        put_written_header(out, fields);
-    } else if is(word, b"text") {
-        fields.expect(4, out);
-        put_from_text(out, fields);
-    } else if is(word, b"answers") {
-        fields.expect(3, out);
-        put_is_answer(out, fields);
-    } else if is(word, b"limit") {
-        fields.expect(3, out);
-        put_limited(out, fields);
-    } else {
-        fields.expect(2, out);
-        respond_to_octets(word, fields.octets(1, out).as_slice(), out);
+struct MessageTable;
+
+impl Table for MessageTable {
+    fn respond(line: &[u8], out: &Answer) {
+        let fields = &Fields::new(line);
+        let word = fields.at(0);
+        if is(word, b"data") || is(word, b"any") || is(word, b"typed") {
+            fields.expect(5, out);
+            put_data(out, fields);
+        } else if is(word, b"order") {
+            fields.expect(5, out);
+            put_order(out, fields);
+        } else if is(word, b"write") {
+            fields.expect(3, out);
+            put_written_header(out, fields);
+        } else if is(word, b"text") {
+            fields.expect(4, out);
+            put_from_text(out, fields);
+        } else if is(word, b"answers") {
+            fields.expect(3, out);
+            put_is_answer(out, fields);
+        } else if is(word, b"limit") {
+            fields.expect(3, out);
+            put_limited(out, fields);
+        } else {
+            fields.expect(2, out);
+            respond_to_octets(word, fields.octets(1, out).as_slice(), out);
+        }
     }
 }
 
@@ -72,36 +73,6 @@ fn respond_to_octets(word: &[u8], octets: &[u8], out: &Answer) {
     }
 }
 
-/// Answers each line of the input. A line that begins with `#` is a heading, and its own answer.
-fn answer_all(alloc: Global, input: &[u8], out: &mut Vec<u8>) -> Result<(), AllocError> {
-    let answer = Answer::new(alloc);
-    for line in input.split(|octet| *octet == b'\n') {
-        if line.is_empty() {
-            continue;
-        }
-        answer.clear();
-        if is_heading(line) {
-            answer.put(line);
-        } else {
-            respond(line, &answer);
-        }
-        answer.end_line(out)?;
-    }
-    Ok(())
-}
-
 fn main(rt: HostRuntime) -> ExitCode {
-    let alloc = rt.alloc();
-    let mut input = Vec::new(alloc);
-    if rt.stdin().read_to_end(&mut input).is_err() {
-        return ExitCode::from(3);
-    }
-    let mut out = Vec::new(alloc);
-    if answer_all(alloc, input.as_slice(), &mut out).is_err() {
-        return ExitCode::from(3);
-    }
-    match rt.stdout().write_all(out.as_slice()) {
-        Ok(()) => ExitCode::from(0),
-        Err(_) => ExitCode::from(3),
-    }
+    answer_table::<MessageTable>(&rt)
 }

@@ -2,9 +2,8 @@
 
 use crate::data::put_name;
 use conformance_labels::Answer;
-use domain_message::{Message, QuestionSection, RecordSection};
+use domain_message::{Message, ParsedRecord, Question, QuestionSection, RecordSection};
 use domain_parsed::ParsedName;
-use domain_record::{ParsedRecord, Question};
 use domain_wire::ParseError;
 
 /// More than any section counts.

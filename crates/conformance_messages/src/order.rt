@@ -20,13 +20,10 @@ type Owned = AllRecordData<Vec<u8>, Name<Vec<u8>>>;
 /// `order TYPE OCTETS TYPE OCTETS`: the canonical order of the two, and whether they are equal. Over octets of their
 /// own they must be the same, and what is equal must have one hash.
 pub fn put_order(out: &Answer, fields: &Fields<'_>) {
-    let (first_type, second_type) = (fields.number(1, out), fields.number(3, out));
+    let (first_type, second_type) = (fields.number16(1, out), fields.number16(3, out));
     let (first, second) = (fields.octets(2, out), fields.octets(4, out));
-    if first_type > 65535 || second_type > 65535 {
-        return out.fail(Fail::Bad);
-    }
-    let first = read(out, first_type as u16, first.as_slice());
-    let second = read(out, second_type as u16, second.as_slice());
+    let first = read(out, first_type, first.as_slice());
+    let second = read(out, second_type, second.as_slice());
     if let (Some(first), Some(second)) = (first, second) {
         put_both(out, first, second);
     }

@@ -3,9 +3,8 @@
 use crate::data::{Read, put_name};
 use conformance_labels::{Answer, Fail, Fields, is};
 use domain_data::{A, Aaaa, Cname, Dname, Mx, Ns, Ptr, Soa, Srv};
-use domain_message::Message;
+use domain_message::{Message, Record};
 use domain_rdata::ParseRecordData;
-use domain_record::Record;
 use domain_txt::Txt;
 use std::fmt::Display;
 

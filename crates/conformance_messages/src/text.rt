@@ -7,12 +7,9 @@ use domain_data_text::words::words_of;
 
 /// `text CLASS TYPE OCTETS`: the data that the text is, or what is wrong and in which column.
 pub fn put_from_text(out: &Answer, fields: &Fields<'_>) {
-    let (class, rtype) = (fields.number(1, out), fields.number(2, out));
+    let (class, rtype) = (fields.number16(1, out), fields.number16(2, out));
     let text = fields.octets(3, out);
-    if class > 65535 || rtype > 65535 {
-        return out.fail(Fail::Bad);
-    }
-    match read(out, class as u16, rtype as u16, text.as_slice()) {
+    match read(out, class, rtype, text.as_slice()) {
         Ok(data) => out.put_hex_after(b"ok ", data.as_slice()),
         Err(Stop::Refused(fault, column)) => {
             out.put_text_after(b"err ", column);

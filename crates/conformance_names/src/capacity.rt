@@ -1,13 +1,13 @@
 //! Octets and builders that are made with room for so many octets.
 
 use arrayvec::ArrayVec;
-use conformance_labels::{Answer, Fail};
+use conformance_labels::{Answer, Fail, length_of};
 use domain_name::NameBuilder;
 use octseq::{EmptyBuilder, Octets, OctetsBuilder, OctetsMut, ShortBuf};
 
 /// `capacity LEN`: `ok` where the room was given, over a `Vec` and over an array of 8 octets; and so for builders.
 pub fn put_capacity(out: &Answer, digits: &[u8]) {
-    let Some(len) = number_of(digits) else {
+    let Some(len) = length_of(digits) else {
         return out.fail(Fail::Bad);
     };
     put_vec(out, len);
@@ -19,10 +19,6 @@ pub fn put_capacity(out: &Answer, digits: &[u8]) {
         out,
         NameBuilder::<ArrayVec<u8, 8>>::with_capacity(alloc, len),
     );
-}
-
-fn number_of(digits: &[u8]) -> Option<usize> {
-    str::from_utf8(digits).ok()?.parse::<usize>().ok()
 }
 
 fn put_vec(out: &Answer, len: usize) {

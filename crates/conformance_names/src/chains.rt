@@ -154,6 +154,7 @@ fn put_absolute_chain(out: &Answer, left: RelativeName<&[u8]>, right: Name<&[u8]
 }
 
 fn put_relative_chain(out: &Answer, left: RelativeName<&[u8]>, right: RelativeName<&[u8]>) {
+    is_made_by_new(out, left, right);
     match left.chain(right) {
         Ok(chain) => {
             put_relative(out, chain, RelativeCall::Labels);
@@ -168,6 +169,25 @@ fn put_relative_chain(out: &Answer, left: RelativeName<&[u8]>, right: RelativeNa
             );
         }
         Err(error) => put_refusal(out, error),
+    }
+}
+
+/// `new` makes the chain that `chain` makes of two relative names, or refuses them as that does.
+fn is_made_by_new(out: &Answer, left: RelativeName<&[u8]>, right: RelativeName<&[u8]>) {
+    match (Chain::new(left, right), left.chain(right)) {
+        (Ok(made), Ok(chain)) => {
+            let (one, other) = made.unwrap();
+            out.agree_all(
+                b"new;new;new",
+                &[
+                    made.compose_len() == chain.compose_len(),
+                    one.as_slice() == left.as_slice(),
+                    other.as_slice() == right.as_slice(),
+                ],
+            );
+        }
+        (Err(made), Err(chain)) => out.agree(made == chain, b"new"),
+        _ => out.wrong(b"new"),
     }
 }
 

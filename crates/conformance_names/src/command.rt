@@ -10,7 +10,7 @@ use crate::flat::{
     put_flatwalk, put_name, put_nameerrors, put_part, put_show, put_split, put_strip,
 };
 use crate::kept::{put_empty, put_keep, put_relkeep, put_root, put_wildcard};
-use crate::made::{put_flat_forms, put_lent_forms, put_relative_flat_forms};
+use crate::made::{put_flat_forms, put_lent_forms, put_lentrelforms, put_relative_flat_forms};
 use crate::relative::{
     put_parents, put_rel, put_relpart, put_relshow, put_relsplit, put_relstrip, put_relwalk,
 };
@@ -71,6 +71,8 @@ fn call_on_relative(word: &[u8], octets: &[u8], out: &Answer) -> bool {
         put_relkeep(out, octets);
     } else if is(word, b"relforms") {
         put_relative_flat_forms(out, octets);
+    } else if is(word, b"lentrelforms") {
+        put_lentrelforms(out, octets);
     } else if is(word, b"rooted") {
         put_rooted(out, octets);
     } else {

@@ -1,20 +1,30 @@
-//! Texts of the errors of texts, builders and record data.
+//! Texts of errors.
 
-use conformance_labels::Answer;
+use conformance_labels::{Answer, Fail};
 use domain_builder::{
     FromStrError, PresentationError, PresentationErrorKind, PushError, PushNameError,
     RelativeFromStrError,
 };
+use domain_flat::{NameError, RelativeNameError, RelativeNameErrorKind};
 use domain_label::scan::{BadSymbol, SymbolCharsError};
-use domain_label::{LabelFromStrError, LabelFromStrErrorKind};
+use domain_label::{
+    LabelFromStrError, LabelFromStrErrorKind, LabelTypeError, LongLabelError, SplitLabelError,
+};
+use domain_list::LongChainError;
+use domain_name::StripSuffixError;
 use domain_rdata::{ComposeRdataError, LongRecordData};
 use domain_serial::IllegalSignatureTime;
-use domain_wire::ParseError;
-use octseq::ShortBuf;
-use std::fmt::Display;
+use domain_wire::{FormError, ParseError};
+use octseq::{ShortBuf, ShortInput};
+use std::error::Error;
+use std::fmt::{Debug, Display};
 
-/// What an error is shown as, and a semicolon.
-fn put_error<D: Display + Drop>(out: &Answer, error: D) {
+/// What an error is shown as, and a semicolon. It is shown for debugging, too, by a text that nothing promises.
+fn put_error<E: Error + Display + Debug>(out: &Answer, error: E) {
+    match format!(in out.alloc(); "{error:?}") {
+        Ok(_text) => {}
+        Err(_) => out.fail(Fail::Memory),
+    }
     out.put_text(error);
     out.put(b";");
 }
@@ -26,6 +36,8 @@ pub fn put_errors(out: &Answer) {
     put_label_errors(out);
     put_presentation_errors(out);
     put_data_errors(out);
+    put_name_errors(out);
+    put_other_errors(out);
 }
 
 fn put_push_errors(out: &Answer) {
@@ -95,4 +107,37 @@ fn put_data_errors(out: &Answer) {
     put_error(out, ComposeRdataError::<ShortBuf>::Append(ShortBuf));
     put_error(out, ComposeRdataError::<ShortBuf>::Long(LongRecordData));
     put_error(out, IllegalSignatureTime::new());
+}
+
+/// Errors of octets that are no label, or no name.
+fn put_name_errors(out: &Answer) {
+    for error in [LabelTypeError::Undefined, LabelTypeError::Extended(127)] {
+        put_error(out, error);
+        put_error(out, SplitLabelError::from(error));
+        put_error(out, NameError::from(error));
+        put_error(out, RelativeNameError::from(error));
+    }
+    for error in [SplitLabelError::Pointer(0), SplitLabelError::ShortInput] {
+        put_error(out, error);
+        put_error(out, NameError::from(error));
+        put_error(out, RelativeNameError::from(error));
+    }
+    for kind in [
+        RelativeNameErrorKind::LongName,
+        RelativeNameErrorKind::AbsoluteName,
+    ] {
+        put_error(out, RelativeNameError::from(kind));
+    }
+}
+
+/// Errors that have one text, and those that have the text of their maker.
+fn put_other_errors(out: &Answer) {
+    put_error(out, LongLabelError);
+    put_error(out, LongChainError);
+    put_error(out, StripSuffixError);
+    put_error(out, ShortBuf);
+    put_error(out, ShortInput);
+    put_error(out, ParseError::from(ShortInput));
+    put_error(out, FormError::new("another form"));
+    put_error(out, ParseError::from(FormError::new("another form")));
 }

@@ -241,3 +241,9 @@ pub fn put_relative_flat_forms(out: &Answer, octets: &[u8]) {
     let name = relative_of(out, octets);
     put_relative_forms(out, &name);
 }
+
+/// `lentrelforms NAME`: those of a reference to the name.
+pub fn put_lentrelforms(out: &Answer, octets: &[u8]) {
+    let name = relative_of(out, octets);
+    put_relative_forms(out, &&name);
+}

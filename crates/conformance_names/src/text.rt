@@ -86,17 +86,22 @@ fn is_read_of_symbols(out: &Answer, symbols: &[Symbol], wanted: Read<'_>) {
     is_asked_once(out, &read, b"memory of from_symbols");
 }
 
-/// The symbols of a text, where no escape is broken.
+/// The symbols of a text, where no escape is broken. A broken one is the last item.
 pub fn symbols_of(out: &Answer, text: &str) -> Option<Vec<Symbol>> {
     let mut symbols = Vec::new(out.alloc());
+    let mut is_broken = false;
     for item in Symbols::new(text.chars()) {
+        out.agree(!is_broken, b"next of symbols after an error");
         match item {
             Ok(symbol) => {
                 let is_taken = symbols.push(symbol).is_ok();
                 out.took(is_taken);
             }
-            Err(_) => return None,
+            Err(_) => is_broken = true,
         }
+    }
+    if is_broken {
+        return None;
     }
     Some(symbols)
 }

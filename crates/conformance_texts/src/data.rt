@@ -5,20 +5,10 @@ use conformance_labels::{Answer, Fail, Fields};
 use domain_descriptor::{DataFault, Rdata};
 use domain_rdata_text::{ReadError, place_of, read, show, split_words};
 
-/// A type or a class. If the field is no number, or one of more than 16 bits, that is noted.
-fn number16_of(out: &Answer, fields: &Fields<'_>, at: usize) -> u16 {
-    let number = fields.number(at, out);
-    if number > 65535 {
-        out.fail(Fail::Bad);
-        return 0;
-    }
-    number as u16
-}
-
 /// `read TYPE CLASS TEXT`: the octets of the data that the text says, or its first fault.
 pub fn put_read(out: &Answer, line: &[u8]) {
     let fields = &Fields::new(line);
-    let (rtype, class) = (number16_of(out, fields, 1), number16_of(out, fields, 2));
+    let (rtype, class) = (fields.number16(1, out), fields.number16(2, out));
     let text = text_of(out, line, 3);
     match read(out.alloc(), rtype, class, text.as_slice()) {
         Ok(octets) => out.put_hex(octets.as_slice()),
@@ -68,7 +58,7 @@ pub fn put_place(out: &Answer, line: &[u8]) {
 pub fn put_shown(out: &Answer, line: &[u8]) {
     let fields = &Fields::new(line);
     fields.expect(5, out);
-    let (rtype, class) = (number16_of(out, fields, 1), number16_of(out, fields, 2));
+    let (rtype, class) = (fields.number16(1, out), fields.number16(2, out));
     let octets = fields.octets(3, out);
     let begin = fields.number(4, out);
     if begin > octets.len() {

@@ -1,7 +1,6 @@
-//! Parts of a line's fields.
-ghost use Rattle.std.specs.Prelude.{◌≤◌};
+//! Names in a line's fields.
 
-use conformance_labels::{Answer, Fail, decimal};
+use conformance_labels::{Answer, Fail};
 use domain_name::Name;
 use domain_zone::Owner;
 
@@ -15,20 +14,4 @@ pub fn name_of(out: &Answer, text: &[u8]) -> Option<Owner> {
         out.fail(Fail::Bad);
     }
     read
-}
-
-/// A decimal number up to this one. If the part is none, that is noted.
-pub fn number_of(out: &Answer, part: &[u8], most: usize) -> usize
-    ensures { result ≤ most }
-{
-    match decimal(part) {
-        Ok(number) => {
-            if number <= most {
-                return number;
-            }
-            out.fail(Fail::Bad);
-        }
-        Err(fail) => out.fail(fail),
-    }
-    0
 }

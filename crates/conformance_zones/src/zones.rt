@@ -1,14 +1,13 @@
 //! A zone that is made of records, and questions to it.
 
 use crate::answers::{put_name, put_outcome};
-use crate::fields::{name_of, number_of};
+use crate::fields::name_of;
 use crate::sections::put_sections;
-use conformance_labels::{Answer, Fail, is, octets_of, split_once};
+use conformance_labels::{Answer, Fail, is, number_up_to, octets_of, split_once};
 use domain_header::Class;
 use domain_zone::{BuildError, InsertError, Owner, Zone, ZoneBuilder};
 use domain_zone_answer::respond;
 use domain_zone_laws::zone::Rrset;
-use domain_zone_lookup::lookup;
 
 /// `zone APEX RECORDS QUESTIONS`
 pub fn put_zone(out: &Answer, apex: &[u8], records: &[u8], questions: &[u8]) {
@@ -36,8 +35,8 @@ fn put_inserted(out: &Answer, builder: &mut ZoneBuilder, record: &[u8]) {
     let Some(owner) = name_of(out, owner) else {
         return;
     };
-    let rtype = number_of(out, rtype, 65535) as u16;
-    let ttl = number_of(out, ttl, 4294967295) as u32;
+    let rtype = number_up_to(out, rtype, 65535) as u16;
+    let ttl = number_up_to(out, ttl, 4294967295) as u32;
     let data = match octets_of(data.unwrap_or(b""), out.alloc()) {
         Ok(data) => data,
         Err(fail) => return out.fail(fail),
@@ -61,11 +60,11 @@ fn put_answers(out: &Answer, zone: &Zone, questions: &[u8]) {
     }
     for question in questions.split(|octet| *octet == b';') {
         let (name, rtype) = split_once(question, b'/');
-        let rtype = number_of(out, rtype.unwrap_or(b""), 65535) as u16;
+        let rtype = number_up_to(out, rtype.unwrap_or(b""), 65535) as u16;
         if let Some(name) = name_of(out, name) {
             put_owned(out, zone, &name, rtype);
             let asked = name.for_slice();
-            put_outcome(out, &lookup(zone, &asked, rtype));
+            put_outcome(out, &zone.lookup(&asked, rtype));
             put_sections(out, &respond(zone, &asked, rtype));
         }
     }

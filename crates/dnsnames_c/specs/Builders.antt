@@ -3,7 +3,7 @@
 use Rattle.std.specs.Prelude.{◌≡◌, ◌⊎◌, ℕ, zero, suc, ◌+◌, ◌<◌, Bool, true, false, List, [], ◌∷◌, ◌++◌, length, take, drop, min, Option, Some, None, IsSome, nat_eq, if◌then◌else◌}
 use Rattle.domain_header.specs.Headers.{header_octets, counts_octets}
 use Rattle.domain_label.specs.Wire.{IsAbsoluteWire}
-use Rattle.domain_record.specs.Composing.{type_and_class}
+use Rattle.domain_message.specs.Composing.{type_and_class}
 use Rattle.domain_message.specs.declared.section.Section.{Section}
 use Rattle.domain_message.specs.declared.section.Section.TheVariants.{Answer, Authority, Additional}
 use Rattle.domain_message_builder.specs.Contents.{blank_header, RecordHead, Content, no_content, Holds}

@@ -1,6 +1,6 @@
 -- OPT records (RFC 6891, 6.1).
 use Rattle.std.specs.Prelude.{◌≡◌, ◌⊎◌, ℕ, ◌+◌, ◌*◌, ◌%◌, List, length}
-use Rattle.domain_edns.specs.OptRecords.{upper_code}
+use Rattle.domain_message.specs.OptRecords.{upper_code}
 use Rattle.domain_offsets.specs.Opts.{NoOptionLeft, HasOption, LacksOption}
 use Rattle.domain_offsets.specs.declared.fault.DataFault.{DataFault}
 use Rattle.dnsnames_c.specs.Status.{data_number}

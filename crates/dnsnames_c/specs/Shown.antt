@@ -2,7 +2,7 @@
 use Rattle.std.specs.Prelude.{◌≡◌, ◌⊎◌, ℕ, List, [], ◌∷◌, ◌++◌, Option, Some, None, length, cond, nat_lt}
 use Rattle.domain_wire.specs.declared.error.ParseError.{ParseError}
 use Rattle.domain_wire.specs.declared.error.ParseError.TheVariants.{ShortInput, Form}
-use Rattle.domain_record.specs.Entries.{RecordFields, RecordAt, NoRecord}
+use Rattle.domain_message.specs.Entries.{RecordFields, RecordAt, NoRecord}
 use Rattle.domain_lines.specs.Records.{IsRecordLine}
 use Rattle.domain_lines.specs.Putting.{IsTextOf}
 use Rattle.domain_lines.specs.Rooms.{HoldsText}

@@ -1,6 +1,6 @@
 //! OPT records (RFC 6891, 6.1).
 ghost use Rattle.std.specs.Prelude.{◌≡◌, ◌≢◌};
-ghost use Rattle.domain_edns.specs.OptRecords.{taken_size, edns_version, dnssec_ok_bit};
+ghost use Rattle.domain_message.specs.OptRecords.{taken_size, edns_version, dnssec_ok_bit};
 ghost use Rattle.dnsnames_c.specs.Answers.{Sets};
 ghost use Rattle.dnsnames_c.specs.Opts.{TellsOptType, extended_code, GivesDataOption};
 

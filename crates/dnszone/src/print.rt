@@ -2,10 +2,10 @@
 
 use domain_descriptor::Rdata;
 use domain_header::Class;
+use domain_message::RtypeText;
 use domain_name::Name;
 use domain_rdata::Rtype;
 use domain_rdata_text::show;
-use domain_record::RtypeText;
 use std::alloc::{AllocError, Global};
 use std::fmt;
 

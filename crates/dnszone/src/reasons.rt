@@ -28,6 +28,7 @@ fn data_text(reason: Reason) -> &'static str {
         Reason::Base16 => "not hexadecimal digits",
         Reason::Base64 => "not base64",
         Reason::CountedBase16 => "not a hyphen or hexadecimal digits",
+        Reason::CountedBase32 => "not base32hex digits",
         Reason::OnlyGeneric => r"data of this type is taken after \# alone",
         Reason::OctetCount => r"not as many octets as \# states",
         Reason::NotData => "not data of this type",

@@ -2,9 +2,9 @@
 
 use crate::print::{Front, put, put_name, put_record, put_records};
 use domain_header::Class;
+use domain_message::RtypeText;
 use domain_name::Name;
 use domain_rdata::Rtype;
-use domain_record::RtypeText;
 use domain_traits::ToName;
 use domain_zone::Zone;
 use domain_zone_answer::{Response, SectionRrset, SynthesizedCname, respond};

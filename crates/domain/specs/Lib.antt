@@ -57,9 +57,9 @@ pub use Rattle.domain_tool.specs.WireText
 pub use Rattle.domain_header.specs.Headers
 pub use Rattle.domain_header.specs.Numbered
 pub use Rattle.domain_header.specs.Tables
-pub use Rattle.domain_record.specs.Entries
-pub use Rattle.domain_record.specs.Once
-pub use Rattle.domain_record.specs.LeftToTarget
+pub use Rattle.domain_message.specs.Entries
+pub use Rattle.domain_message.specs.Once
+pub use Rattle.domain_message.specs.LeftToTarget
 pub use Rattle.domain_message.specs.Sections
 pub use Rattle.domain_message.specs.Runs
 pub use Rattle.domain_message.specs.Aliases
@@ -70,9 +70,9 @@ pub use Rattle.domain_stream.specs.Errors as StreamErrors
 pub use Rattle.domain_stream.specs.Readers as StreamReaders
 pub use Rattle.domain_stream.specs.Views as StreamViews
 pub use Rattle.domain_stream.specs.Laws as StreamLaws
-pub use Rattle.domain_edns.specs.Options
-pub use Rattle.domain_edns.specs.OptRecords
-pub use Rattle.domain_edns.specs.Views as OptDataViews
+pub use Rattle.domain_message.specs.Options
+pub use Rattle.domain_message.specs.OptRecords
+pub use Rattle.domain_message.specs.OptDataViews
 pub use Rattle.domain_fields.specs.Data as FieldData
 pub use Rattle.domain_fields.specs.Names as FieldNames
 pub use Rattle.domain_fields.specs.Sequences

@@ -43,6 +43,7 @@ pub mod name {
     pub use domain_label::owned::OwnedLabel;
     pub use domain_label::slice_labels::SliceLabelsIter;
     pub use domain_label::split_error::{LabelTypeError, SplitLabelError};
+    pub use domain_label::split_mut::{split_octets_mut, split_wire_mut};
     pub use domain_list::chain::{Chain, ChainIter, LongChainError};
     pub use domain_list::dotted::DisplayWithDot;
     pub use domain_list::labels::{
@@ -98,20 +99,18 @@ pub mod header {
 pub mod message {
     pub use domain_header::ShortMessage;
     pub use domain_message::{
-        Message, Passes, QuestionSection, RecordIter, RecordSection, Section, section_laws,
+        Message, Passes, QuestionSection, RecordIter, RecordSection, Section, entry_laws,
+        reads_back_laws, section_laws,
     };
-    pub use domain_record::{entry_laws, reads_back_laws};
 }
 
-/// Messages that are written (RFC 1035, 4.1). crates/domain_message_builder/README.md shows how to write one, and
-/// crates/domain_sections/README.md how to write one with a type for each section.
+/// Messages that are written (RFC 1035, 4.1). crates/domain_message_builder/README.md shows how to write one, also
+/// with a type for each section.
 pub mod message_builder {
     pub use domain_message_builder::{
-        MessageBuilder, OptBuilder, PushError, StartError, builder_laws, pushed_data_reads_back,
-    };
-    pub use domain_sections::{
         AdditionalBuilder, AdditionalSection, AnswerBuilder, AnswerSection, AuthorityBuilder,
-        AuthoritySection, QuestionBuilder, RecordBuilder, RecordSection, SectionError,
+        AuthoritySection, MessageBuilder, OptBuilder, PushError, QuestionBuilder, RecordBuilder,
+        RecordSection, SectionError, StartError, builder_laws, pushed_data_reads_back,
     };
 }
 
@@ -124,7 +123,7 @@ pub mod stream {
 
 /// OPT records that are read (RFC 6891).
 pub mod opt {
-    pub use domain_edns::{
+    pub use domain_message::{
         ClientSubnet, Cookie, EdnsOption, ExtendedError, Nsid, OptData, OptError, OptIter,
         OptRecord, opt_of,
     };
@@ -132,18 +131,18 @@ pub mod opt {
 
 /// Questions (RFC 1035, 4.1.2).
 pub mod question {
-    pub use domain_record::Question;
+    pub use domain_message::Question;
 }
 
 /// Records (RFC 1035, 4.1.3).
 pub mod record {
     pub use domain_header::Ttl;
-    pub use domain_record::{ParsedRecord, Record, RecordHeader};
+    pub use domain_message::{ParsedRecord, Record, RecordHeader};
 }
 
 /// Numbers that have mnemonics.
 pub mod iana {
     pub use domain_header::{Class, Opcode, Rcode};
+    pub use domain_message::{RtypeText, rtype_from_mnemonic, rtype_from_text, rtype_mnemonic};
     pub use domain_rdata::Rtype;
-    pub use domain_record::{RtypeText, rtype_from_mnemonic, rtype_from_text, rtype_mnemonic};
 }

@@ -1,9 +1,9 @@
 -- What is known of data, whichever type it has, and what a call ensures by that.
-use Rattle.std.specs.Prelude.{◌≡◌, ◌↔◌, ◌≤◌, ℕ, Bool, false, List, length, Option, OnOk, OnErr, IfSome, IsNone}
+use Rattle.std.specs.Prelude.{◌≡◌, ◌↔◌, ◌+◌, ◌<◌, ◌≤◌, ℕ, Bool, false, List, length, Option, OnOk, OnErr, IfSome, IsNone}
 use Rattle.std.specs.declared.result.Result.{Result}
 use Rattle.domain_rdata.specs.Canonical.{canonical_form, WithForm, FormExceeds}
 use Rattle.domain_rdata.specs.Members.{ComposerMembers, DataMembers, Writing}
-use Rattle.domain_rdata.specs.ReadBack.{Appended, Exceeds}
+use Rattle.domain_rdata.specs.ReadBack.{Appended}
 
 -- what is known of data
 pub record DataFacts : Type 1 where
@@ -41,7 +41,8 @@ pub record DataAppended {T E : Type 0} (g : ComposerMembers T) (it : DataFacts) 
   pub names : OnOk result (it.written T g.extends g.appends old new)
   pub memory : g.kept_within (length (g.octets old)) (g.memory new) ≡ g.memory old
   pub unchanged : OnErr result (g.octets new ≡ g.octets old)
-  pub full : OnErr result (Exceeds (it.composed g.compresses (g.octets old)) (g.octets old) (g.capacity old))
+  pub full : OnErr result (g.capacity old < length (g.octets old) + length it.uncompressed)
+  pub some : OnErr result (0 < length it.uncompressed)
   pub capacity : g.capacity old ≤ g.capacity new
 
 -- What `compose_canonical_rdata` ensures.
@@ -50,4 +51,5 @@ pub record FormAppended {T E : Type 0} (g : ComposerMembers T) (it : DataFacts) 
   pub memory : g.kept_within (length (g.octets old)) (g.memory new) ≡ g.memory old
   pub unchanged : OnErr result (g.octets new ≡ g.octets old)
   pub full : OnErr result (FormExceeds (canonical_of it) (g.octets old) (g.capacity old))
+  pub some : OnErr result (0 < length (canonical_of it))
   pub capacity : g.capacity old ≤ g.capacity new

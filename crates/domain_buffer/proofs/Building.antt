@@ -11,7 +11,7 @@ use Rattle.domain_label.specs.Wire.{labels_in, IsAbsoluteWire}
 use Rattle.domain_compress.specs.Compressing.{RememberedLabel, Compresses, remembered_from}
 use Rattle.domain_compress.specs.Planned.{offsets, remembered_in_table}
 use Rattle.domain_compress.specs.Pointed.{compressed_reads_back}
-use Rattle.domain_record.specs.Composing.{type_and_class, before_length}
+use Rattle.domain_message.specs.Composing.{type_and_class, before_length}
 use Rattle.domain_message.specs.declared.section.Section.{Section}
 use Rattle.domain_message.specs.declared.section.Section.TheVariants.{Answer, Authority, Additional}
 use Rattle.domain_rdata.specs.ReadBack.{Appended}

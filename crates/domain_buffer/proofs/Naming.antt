@@ -4,7 +4,7 @@ use Rattle.std.specs.Int.{w16, to_be_bytes}
 use Rattle.domain_label.specs.Wire.{labels_in, IsWire, IsAbsoluteWire}
 use Rattle.domain_compress.specs.Compressing.{remembered_from}
 use Rattle.domain_compress.specs.Planned.{offsets, remembered_in_table}
-use Rattle.domain_record.specs.Composing.{before_length}
+use Rattle.domain_message.specs.Composing.{before_length}
 use Rattle.domain_message.specs.declared.section.Section.{Section}
 use Rattle.domain_message.specs.declared.section.Section.TheVariants.{Answer, Authority, Additional}
 use Rattle.domain_rdata.specs.RecordData.{NameOctets}

@@ -6,8 +6,8 @@ use Rattle.domain_header.specs.Headers.{header_octets, counts_octets}
 use Rattle.domain_header.specs.declared.counts.HeaderCounts.{HeaderCounts}
 use Rattle.domain_header.specs.declared.flags.Header.{Header}
 use Rattle.domain_label.specs.Wire.{labels_in}
-use Rattle.domain_record.specs.Composing.{before_length}
-use Rattle.domain_record.specs.Entries.{QuestionFields}
+use Rattle.domain_message.specs.Composing.{before_length}
+use Rattle.domain_message.specs.Entries.{QuestionFields}
 use Rattle.domain_message.specs.declared.section.Section.{Section}
 use Rattle.domain_message.specs.declared.section.Section.TheVariants.{Answer, Authority, Additional}
 use Rattle.domain_message_builder.specs.Contents.{blank_header, RecordHead}

@@ -8,7 +8,7 @@ use Rattle.domain_message_builder.specs.Contents.{blank_header, RecordHead}
 use Rattle.domain_message_builder.specs.Pushes.{PushesRecord}
 use Rattle.domain_rdata.specs.ReadBack.{StandsAt}
 use Rattle.domain_rdata.specs.RecordData.{NameOctets}
-use Rattle.domain_record.specs.Composing.{before_length}
+use Rattle.domain_message.specs.Composing.{before_length}
 use Rattle.domain_reading.specs.Grammar.{EncodingEnds}
 use Rattle.domain_buffer.specs.Puts.{PutsAt}
 use Rattle.domain_buffer.specs.Plans.{Spells, more_of_table}

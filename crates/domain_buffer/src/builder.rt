@@ -2,7 +2,7 @@
 ghost use Rattle.std.specs.Prelude.{◌≡◌, ◌<◌, ◌≤◌, ◌+◌, ◌^◌, ◌++◌, ◌↔◌, length, IsTrue};
 ghost use Rattle.std.specs.Int.{w16, to_be_bytes};
 ghost use Rattle.domain_label.specs.Wire.{IsAbsoluteWire};
-ghost use Rattle.domain_record.specs.Composing.{type_and_class, before_length};
+ghost use Rattle.domain_message.specs.Composing.{type_and_class, before_length};
 ghost use Rattle.domain_message_builder.specs.Pushes.{later_count, section_count};
 ghost use Rattle.domain_message_builder.specs.SectionStarts.{IsInOrder};
 ghost use Rattle.domain_buffer.specs.Puts.{PutsAt};

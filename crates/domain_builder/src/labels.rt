@@ -153,6 +153,7 @@ impl<B: OctetsBuilder + OctetsMut> LabelsBuilder<B> {
         ensures made { OnOk result (self.new.built ≡ pushed self.old.built slice.now) }
         ensures unchanged { OnErr result (self.new.built ≡ self.old.built) }
         ensures err { LacksOnlyRoom B.limit (pushed self.old.built slice.now) self.new result }
+        ensures some { OnErr result (0 < length slice.now) }
         ensures capacity { self.old.capacity ≤ self.new.capacity }
     {
         if self.head.is_some() {
@@ -194,7 +195,7 @@ impl<B: OctetsBuilder + OctetsMut> LabelsBuilder<B> {
         ensures made { OnOk result (self.new.built ≡ pushed self.old.built slice.now) }
         ensures unchanged { OnErr result (self.new.built ≡ self.old.built) }
         ensures answer { AnswersOctets B.limit slice.now self.old result self.new }
-        ensures nothing { slice.now ≡ [] → IsOk result }
+        ensures some { OnErr result (0 < length slice.now) }
         ensures capacity { self.old.capacity ≤ self.new.capacity }
     {
         if slice.is_empty() {
@@ -229,7 +230,7 @@ impl<B: OctetsBuilder + OctetsMut> LabelsBuilder<B> {
         ensures made { OnOk result (self.new.built ≡ labelled self.old.built slice.now) }
         ensures unchanged { OnErr result (self.new.built ≡ self.old.built) }
         ensures answer { AnswersLabel B.limit slice.now self.old result self.new }
-        ensures nothing { slice.now ≡ [] → IsOk result }
+        ensures some { OnErr result (0 < length slice.now) }
         ensures capacity { self.old.capacity ≤ self.new.capacity }
     {
         if slice.is_empty() {
@@ -256,6 +257,7 @@ impl<B: OctetsBuilder + OctetsMut> LabelsBuilder<B> {
         ensures made { OnOk result (self.new.built ≡ labelled self.old.built slice.now) }
         ensures unchanged { OnErr result (self.new.built ≡ self.old.built) }
         ensures err { LacksOnlyRoom B.limit (labelled self.old.built slice.now) self.new result }
+        ensures some { OnErr result (0 < length slice.now) }
         ensures capacity { self.old.capacity ≤ self.new.capacity }
     {
         let end = self.builder.as_slice().len();
@@ -300,7 +302,7 @@ impl<B: OctetsBuilder + OctetsMut> LabelsBuilder<B> {
     }
 
     /// Finishes the open label and adds the labels of a relative name of any kind, in one piece that is
-    /// appended once.
+    /// appended once. For a name without labels it never fails.
     #[tactic(auto, using(crate::proofs::Building::size_named))]
     pub fn append_name<'a, N: RelativeLabels<'a>>(
         &mut self,
@@ -309,6 +311,7 @@ impl<B: OctetsBuilder + OctetsMut> LabelsBuilder<B> {
         ensures made { OnOk result (self.new.built ≡ named self.old.built (N.labels name.now)) }
         ensures unchanged { OnErr result (self.new.built ≡ self.old.built) }
         ensures answer { AnswersName B.limit (N.labels name.now) self.old result self.new }
+        ensures some { OnErr result (0 < length (wire (N.labels name.now))) }
         ensures capacity { self.old.capacity ≤ self.new.capacity }
     {
         if let Some(flat) = name.as_flat_slice() {
@@ -326,6 +329,7 @@ impl<B: OctetsBuilder + OctetsMut> LabelsBuilder<B> {
         ensures made { OnOk result (self.new.built ≡ named self.old.built (labels_in slice.now)) }
         ensures unchanged { OnErr result (self.new.built ≡ self.old.built) }
         ensures answer { AnswersName B.limit (labels_in slice.now) self.old result self.new }
+        ensures some { OnErr result (0 < length slice.now) }
         ensures capacity { self.old.capacity ≤ self.new.capacity }
     {
         if self.len() + slice.len() > 254 {
@@ -342,6 +346,7 @@ impl<B: OctetsBuilder + OctetsMut> LabelsBuilder<B> {
         ensures unchanged { OnErr result (self.new.built ≡ self.old.built) }
         ensures full { OnErr result
             (room B.limit self.new < size self.old.built + length slice.now) }
+        ensures some { OnErr result (0 < length slice.now) }
         ensures capacity { self.old.capacity ≤ self.new.capacity }
     {
         let len = self.builder.as_slice().len();

@@ -210,6 +210,7 @@ impl<T: Composer> OctetsBuilder for CompressComposer<T> {
         ensures unchanged { OnErr result (octets_of self.new ≡ octets_of self.old) }
         ensures full { OnErr result
             (room_of self.new < length (octets_of self.old) + length slice.now) }
+        ensures some { OnErr result (0 < length slice.now) }
         ensures capacity { room_of self.old ≤ room_of self.new }
         ensures within { IfSome T.limit (λ n. length (octets_of self.new) ≤ n) }
         ensures offsets { RemembersSame self.old self.new }

@@ -1,8 +1,9 @@
 -- The laws of fields.
-use Rattle.std.specs.Prelude.{◌≡◌, ℕ, Bool, true, false, List, Option, None, Some, if◌then◌else◌, length, refl}
-use Rattle.std.proofs.Common.{ap, subst, ◌∙◌}
+use Rattle.std.specs.Prelude.{◌≡◌, ℕ, ◌≤◌, ◌<◌, Bool, true, false, List, Option, None, Some, if◌then◌else◌, length, refl}
+use Rattle.std.proofs.Common.{arith, ap, subst, ◌∙◌}
 use Rattle.domain_label.specs.Wire.{wire, IsAbsoluteName}
 use Rattle.domain_label.proofs.CanonicalForm.{lowercase_size}
+use Rattle.domain_label.proofs.WireLaws.{absolute_some}
 use Rattle.domain_rdata.specs.FlatNames.{wire_reads_back}
 use Rattle.domain_rdata.specs.RecordData.{NameOctets}
 use Rattle.domain_fields.specs.Cases.{cased_labels}
@@ -20,6 +21,15 @@ none_known {n} {A} e = let P : Option ℕ → Type 0 = λ o. elim o as (λ _. Ty
 -- the length of octets that are always the same
 pub fixed_size : (o s : List ℕ) (len n : ℕ) → length o ≡ len → Some len ≡ Some n → s ≡ o → length s ≡ n
 fixed_size o s len n has told is = ap length is ∙ (has ∙ known_once told)
+
+-- octets that are always the same are never longer
+pub no_longer : (o s : List ℕ) → s ≡ o → length s ≤ length o
+no_longer o s is = omega (arith, ap length is)
+
+-- a name has octets, in lowercase too
+pub cased_some : (lowercase : Bool) (ls : List (List ℕ)) → IsAbsoluteName ls → 0 < length (wire (cased_labels lowercase ls))
+cased_some true ls name = omega (arith, lowercase_size ls, absolute_some ls name.0)
+cased_some false ls name = absolute_some ls name.0
 
 -- the length of the canonical form of a name
 pub cased_size : (lowercase : Bool) (ls : List (List ℕ)) (n : ℕ) → Some (length (wire ls)) ≡ Some n → length (wire (cased_labels lowercase ls)) ≡ n

@@ -1,10 +1,10 @@
 -- One field of record data after another.
-use Rattle.std.specs.Prelude.{◌≡◌, ℕ, ◌+◌, ◌≤◌, Bool, true, false, nat_le, if◌then◌else◌, List, ◌++◌, length, Option, None, Some, refl}
+use Rattle.std.specs.Prelude.{◌≡◌, ℕ, ◌+◌, ◌<◌, ◌≤◌, Bool, true, false, nat_le, if◌then◌else◌, List, ◌++◌, length, Option, None, Some, refl}
 use Rattle.std.proofs.Common.{ap, subst, ◌∙◌, arith, length-append, append_assoc}
 use Rattle.domain_wire.specs.Refusals.{Refusal}
 use Rattle.domain_rdata.specs.Members.{Writing}
 use Rattle.domain_rdata.specs.OctetsAlone.{WritesComposed}
-use Rattle.domain_rdata.specs.ReadBack.{Appended, Exceeds}
+use Rattle.domain_rdata.specs.ReadBack.{Appended}
 use Rattle.domain_fields.specs.FieldLaws.{known_once, none_known}
 use Rattle.domain_fields.specs.Reading.{IsReadingOf}
 
@@ -113,17 +113,15 @@ both_canonical a b x y n first rest told = length-append a b ∙ both_known x y 
 pub both_same : {a b c d : List ℕ} → a ≡ b → c ≡ d → a ++ c ≡ b ++ d
 both_same {b = b} {c = c} first rest = ap (λ x. x ++ c) first ∙ ap (λ y. b ++ y) rest
 
--- what is full, and what is appended
-pub first_exceeds : (First Rest : List ℕ → List ℕ → Type 0) (w t : List ℕ) (capacity : ℕ) → ((u : List ℕ) → Rest u w) → Exceeds (First t) t capacity → Exceeds (BothComposed First Rest t) t capacity
-first_exceeds First Rest w t capacity rest full = record {
-  octets = full.octets ++ w;
-  allowed = both_plain First Rest t full.octets w full.allowed (rest (t ++ full.octets));
-  full = omega (arith, full.full, length-append full.octets w);
-}
+-- what may be appended for both is no longer than both with no name compressed
+pub both_shorter : (First Rest : List ℕ → List ℕ → Type 0) (t s a b : List ℕ) → ((t s : List ℕ) → First t s → length s ≤ length a) → ((t s : List ℕ) → Rest t s → length s ≤ length b) → BothComposed First Rest t s → length s ≤ length (a ++ b)
+both_shorter First Rest t s a b first rest both =
+    omega (arith, ap length both.all, length-append both.first both.rest, length-append a b, first t both.first both.first_allowed, rest (t ++ both.first) both.rest both.rest_allowed)
 
-pub rest_exceeds : (First Rest : List ℕ → List ℕ → Type 0) (t mid : List ℕ) (capacity grown : ℕ) → Appended (First t) t mid → capacity ≤ grown → Exceeds (Rest mid) mid grown → Exceeds (BothComposed First Rest t) t capacity
-rest_exceeds First Rest t mid capacity grown done more full = record {
-  octets = done.octets ++ full.octets;
-  allowed = both_plain First Rest t done.octets full.octets done.allowed (subst (λ m. Rest m full.octets) done.all full.allowed);
-  full = omega (arith, full.full, more, ap length done.all, length-append t done.octets, length-append done.octets full.octets);
-}
+-- Where the first exceeds the capacity, or the rest after it does, both do with no name compressed.
+pub first_exceeds : (t a b : List ℕ) (capacity : ℕ) → capacity < length t + length a → capacity < length t + length (a ++ b)
+first_exceeds t a b capacity full = omega (arith, full, length-append a b)
+
+pub rest_exceeds : (First : List ℕ → Type 0) (t mid a b : List ℕ) (capacity grown : ℕ) → Appended First t mid → ((s : List ℕ) → First s → length s ≤ length a) → capacity ≤ grown → grown < length mid + length b → capacity < length t + length (a ++ b)
+rest_exceeds First t mid a b capacity grown done shorter more full =
+    omega (arith, full, more, ap length done.all, length-append t done.octets, shorter done.octets done.allowed, length-append a b)

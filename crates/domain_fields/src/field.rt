@@ -1,10 +1,10 @@
 //! Fields of record data.
-ghost use Rattle.std.specs.Prelude.{◌≡◌, ℕ, ◌∷◌, [], ◌≤◌, List, length, OnOk, OnErr, Bool, false, Option, Some, refl};
+ghost use Rattle.std.specs.Prelude.{◌≡◌, ℕ, ◌∷◌, [], ◌≤◌, ◌<◌, List, length, OnOk, OnErr, Bool, false, Option, Some, refl};
 ghost use Rattle.octseq.specs.Appending.{GrowsBy, TooFull};
 ghost use Rattle.domain_rdata.specs.Members.{Writing};
 ghost use Rattle.domain_rdata.specs.OctetsAlone.{WritesComposed, octets_written};
-ghost use Rattle.domain_rdata.specs.Targets.{RemembersAsBefore, Grows, Overflows, LeftTo};
-ghost use Rattle.domain_fields.specs.FieldLaws.{fixed_size};
+ghost use Rattle.domain_rdata.specs.Targets.{RemembersAsBefore, Grows, LeftTo};
+ghost use Rattle.domain_fields.specs.FieldLaws.{fixed_size, no_longer};
 ghost use Rattle.domain_fields.specs.Moves.{NamesMove};
 ghost use Rattle.domain_fields.specs.Parts.{Part, no_name, parts_octets, one_part};
 
@@ -43,21 +43,21 @@ pub trait DataField {
 
     /// Appends the field, or nothing.
     ///
-    /// Fails only where octets that may be appended exceed the spare capacity of the target,
-    /// and leaves its octets then.
+    /// Fails only where there are octets, and those with no name compressed exceed the spare capacity of the target.
+    /// It leaves its octets then.
     fn compose_field<T: Composer>(&self, target: &mut T) -> Result<(), T::AppendError>
         ensures ok { OnOk result (Grows T.Composer (composed self.now) target.old target.new) }
         ensures names { OnOk result (LeftTo T.Composer (written self.now) target.old target.new) }
         ensures memory { RemembersAsBefore T.Composer target.old target.new }
         ensures unchanged { OnErr result (T.octets target.new ≡ T.octets target.old) }
-        ensures full { OnErr result (Overflows T.Composer (composed self.now) target.old) }
+        ensures full { OnErr result (TooFull T.Octets target.old (uncompressed self.now false)) }
+        ensures some { OnErr result (0 < length (uncompressed self.now false)) }
         ensures capacity { T.capacity target.old ≤ T.capacity target.new };
 
     /// Appends the canonical form of the field, or nothing (RFC 4034, 6.2): no name is compressed, and names are in
     /// lowercase if `lowercase`, which the type of the record tells.
     ///
-    /// Fails only where its octets exceed the spare capacity of the target, and leaves its
-    /// octets then.
+    /// Fails only where it has octets, and they exceed the spare capacity of the target, and leaves its octets then.
     fn compose_canonical_field<T: Composer>(
         &self,
         lowercase: bool,
@@ -69,6 +69,7 @@ pub trait DataField {
         ensures unchanged { OnErr result (T.octets target.new ≡ T.octets target.old) }
         ensures full { OnErr result
             (TooFull T.Octets target.old (uncompressed self.now lowercase)) }
+        ensures some { OnErr result (0 < length (uncompressed self.now lowercase)) }
         ensures capacity { T.capacity target.old ≤ T.capacity target.new };
 
     /// In both forms the octets are those of the parts: names in lowercase, or with their case, and other octets as
@@ -87,6 +88,10 @@ pub trait DataField {
 
     /// A target that writes no name shorter takes nothing else.
     ghost flat: { (it : Self) (t s : List ℕ) → composed it false t s → s ≡ uncompressed it false };
+
+    /// What may be appended is never longer than the field with no name compressed.
+    ghost never_longer: { (it : Self) (compresses : Bool) (t s : List ℕ) →
+        composed it compresses t s → length s ≤ length (uncompressed it false) };
 
     /// What is written to a target that is its octets alone is what may be composed.
     ghost writes_composed: { (it : Self) → WritesComposed (written it) (composed it) };
@@ -138,6 +143,8 @@ impl<T: FixedLen> DataField for T {
     ghost plain = { λ _ _ _. refl };
 
     ghost flat = { λ _ _ _ h. h };
+
+    ghost never_longer = { λ it _ _ s is. no_longer (T.composed_octets it) s is };
 
     ghost writes_composed = { λ it. octets_written (T.composed_octets it) };
 

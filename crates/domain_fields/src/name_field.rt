@@ -9,7 +9,7 @@ ghost use Rattle.domain_rdata.specs.OctetsAlone.{name_written, octets_written};
 ghost use Rattle.domain_rdata.specs.RecordData.{NameOctets};
 ghost use Rattle.domain_rdata.specs.Targets.{RemembersAsBefore, AddsName, NameOverflows};
 ghost use Rattle.domain_fields.specs.Cases.{cased_labels, lowercase_wire};
-ghost use Rattle.domain_fields.specs.FieldLaws.{fixed_size, cased_size, name_size, wire_octets};
+ghost use Rattle.domain_fields.specs.FieldLaws.{fixed_size, no_longer, cased_size, name_size, wire_octets};
 ghost use Rattle.domain_fields.specs.Names.{NameFieldAt, NoNameField, name_reading};
 ghost use Rattle.domain_fields.specs.Orders.{cased_order, hashed};
 ghost use Rattle.domain_fields.specs.Parts.{a_name, one_part};
@@ -242,6 +242,8 @@ impl<N: DataName> DataField for NameField<N> {
 
     ghost flat = { λ it t s name. name.flat refl };
 
+    ghost never_longer = { λ it _ _ _ name. name.read.short };
+
     ghost writes_composed = { λ it. name_written (N.labels it.name) };
 
     ghost sized = { λ it c n t s known name. name_size (N.labels it.name) c n t s known name };
@@ -318,6 +320,8 @@ impl<N: DataName> DataField for UncompressedNameField<N> {
     ghost plain = { λ _ _ _. refl };
 
     ghost flat = { λ _ _ _ same. same };
+
+    ghost never_longer = { λ it _ _ s is. no_longer (wire (N.labels it.name)) s is };
 
     ghost writes_composed = { λ it. octets_written (wire (N.labels it.name)) };
 

@@ -3,7 +3,7 @@ ghost use Rattle.std.specs.Prelude.{◌++◌, false};
 ghost use Rattle.domain_fields.specs.Moves.{both_moves};
 ghost use Rattle.domain_fields.specs.Parts.{both_parts};
 ghost use Rattle.domain_fields.specs.Sequences.{BothComposed, BothWritten, BothAt, NotBoth, both_reading, both_len, both_plain, both_flat};
-ghost use Rattle.domain_fields.specs.Sequences.{both_written, both_sized, both_canonical};
+ghost use Rattle.domain_fields.specs.Sequences.{both_shorter, both_written, both_sized, both_canonical};
 
 use crate::field::DataField;
 use crate::read::{FieldError, ReadField};
@@ -118,6 +118,10 @@ impl<A: DataField, B: DataField> DataField for Sequence<A, B> {
     ghost flat = { λ it t s both. both_flat (A.composed it.first false) (B.composed it.rest false)
         (A.uncompressed it.first false) (B.uncompressed it.rest false) t s (A.flat it.first)
         (B.flat it.rest) both };
+
+    ghost never_longer = { λ it c t s both. both_shorter (A.composed it.first c)
+        (B.composed it.rest c) t s (A.uncompressed it.first false) (B.uncompressed it.rest false)
+        (A.never_longer it.first c) (B.never_longer it.rest c) both };
 
     ghost writes_composed = { λ it. both_written (A.written it.first) (B.written it.rest)
         (A.composed it.first) (B.composed it.rest) (A.writes_composed it.first)

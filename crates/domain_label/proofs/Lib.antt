@@ -12,3 +12,10 @@ pub mod LabelOctets
 pub mod SplitLaws
 mod WalkLemmas
 pub mod WireLaws
+mod FollowingParts
+mod SlicePairs
+mod CutCalls
+mod PastCalls
+mod LabelPairs
+mod FoundCalls
+mod KnownCalls

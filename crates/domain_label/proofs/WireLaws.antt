@@ -1,5 +1,5 @@
 -- Laws of wire formats and of the lists that they spell.
-use Rattle.std.specs.Prelude.{◌≡◌, ℕ, zero, suc, ◌+◌, ◌≤◌, List, [], ◌∷◌, ◌++◌, length, refl}
+use Rattle.std.specs.Prelude.{◌≡◌, ℕ, zero, suc, ◌+◌, ◌≤◌, ◌<◌, List, [], ◌∷◌, ◌++◌, length, refl}
 use Rattle.std.specs.Coded.{×_prop, Unit-prop, le_prop, Coded-set, coded_list, coded_ℕ}
 use Rattle.std.proofs.Common.{arith, ap, subst, sym, ◌∙◌, append_assoc, length-append}
 use Rattle.std.proofs.Math.Seq.{take-append_seam, drop-append_seam}
@@ -38,6 +38,11 @@ nil_from_wire (l ∷ ls) e = absurd (omega (arith, e))
 pub labels_le_wire : (ls : List (List ℕ)) → length ls ≤ length (wire ls)
 labels_le_wire [] = omega arith
 labels_le_wire (l ∷ ls) = omega (arith, labels_le_wire ls, length-append l (wire ls))
+
+-- an absolute list has an octet at least, that of the root
+pub absolute_some : (ls : List (List ℕ)) → IsAbsolute ls → 0 < length (wire ls)
+absolute_some [] a = absurd a
+absolute_some (l ∷ ls) a = omega arith
 
 -- a relative list before an absolute one, and before a relative one
 pub relative_then_absolute : (ls rs : List (List ℕ)) → IsRelative ls → IsAbsolute rs → IsAbsolute (ls ++ rs)

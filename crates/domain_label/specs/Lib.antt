@@ -9,6 +9,8 @@ pub mod ErrorText
 pub mod Labels
 pub mod Lending
 pub mod LendingLabel
+pub mod LendingParts
+pub mod LendingLabelParts
 pub mod Spelling
 pub mod Scanning
 pub mod Yielding

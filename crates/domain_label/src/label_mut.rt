@@ -6,6 +6,7 @@ ghost use Rattle.domain_label.specs.Wire.{IsLabel};
 
 use crate::label::{Label, LongLabelError};
 use crate::split_error::SplitLabelError;
+use crate::split_mut::{first_len, past_first};
 
 /// A label whose octets can be written in place. How many there are stays the same.
 #[derive(Debug, Drop)]
@@ -18,6 +19,7 @@ impl<'a> LabelMut<'a> {
     ghost use Rattle.domain_label.specs.Splitting.{BeginsWithLabel, SplitFault};
     ghost use Rattle.domain_label.specs.Labels.{label_octets, label_mut_octets};
     ghost use Rattle.domain_label.specs.LendingLabel.{LendsSlice};
+    ghost use Rattle.domain_label.specs.LendingLabelParts.{LendsIfLabel, LendsLabelAndRest, IsFound};
 
     /// The label of these octets, in place.
     ///
@@ -45,17 +47,23 @@ impl<'a> LabelMut<'a> {
 
     /// The label that the octets begin with, and the octets after it, both in place (RFC 1035, 3.1).
     ///
-    /// The errors are those of [`Label::split_from`], and then the octets stay as they are.
+    /// The errors are those of [`Label::split_from`], and then the octets stay as they are. Once both parts end, the
+    /// octets are the first one as it was, the label's as they were left, and then the rest (`writes_back`). A
+    /// caller's proof can't use this clause. It can use that of
+    /// [`split_octets_mut`](crate::split_mut::split_octets_mut).
     pub fn split_from_mut(
         octets: &'a mut [u8],
     ) -> Result<(LabelMut<'a>, &'a mut [u8]), SplitLabelError>
+        ensures* writes_back { sem 𝓛 (LendsIfLabel octets.entry result) }
         ensures ok { IfOk result
             (λ parts. BeginsWithLabel octets.old (label_mut_octets parts.0) parts.1.now) }
         ensures err { IfErr result (λ e. SplitFault octets.old e) }
     {
-        let (label, _) = Label::split_from(octets)?;
-        let len = label.len();
-        Ok(LabelMut::split_known(octets, len))
+        let (octets, found) = LabelMut::find_first(octets);
+        match found {
+            Ok(len) => Ok(LabelMut::split_known(octets, len)),
+            Err(e) => Err(e),
+        }
     }
 
     /// The label, for reading.
@@ -90,15 +98,22 @@ impl<'a> LabelMut<'a> {
         self.octets.make_ascii_lowercase();
     }
 
+    /// The octets, and how many their first label has, or why they begin with none.
+    fn find_first(octets: &'a mut [u8]) -> (&'a mut [u8], Result<usize, SplitLabelError>)
+        ensures { IsFound octets.entry result }
+    {
+        let found = first_len(octets);
+        (octets, found)
+    }
+
     /// The label of `len` octets after the length octet, and the octets after it.
     pub(crate) fn split_known(octets: &'a mut [u8], len: usize) -> (LabelMut<'a>, &'a mut [u8])
-        requires short { len ≤ 63 }
-        requires whole { len < length octets.old }
-        ensures label { label_mut_octets result.0 ≡ take len (drop 1 octets.old) }
-        ensures rest { result.1.now ≡ drop len (drop 1 octets.old) }
+        requires { (len ≤ 63) × (len < length octets.old) }
+        ensures* writes_back { sem 𝓛 (LendsLabelAndRest octets.entry result) }
+        ensures parts { (label_mut_octets result.0 ≡ take len (drop 1 octets.old))
+            × (result.1.now ≡ drop len (drop 1 octets.old)) }
     {
-        let (_, octets) = octets.split_at_mut(1);
-        let (octets, rest) = octets.split_at_mut(len);
+        let (octets, rest) = past_first(octets, len);
         (LabelMut { octets }, rest)
     }
 }

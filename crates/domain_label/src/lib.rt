@@ -15,6 +15,7 @@ pub mod presentation;
 pub mod scan;
 pub mod slice_labels;
 pub mod split_error;
+pub mod split_mut;
 mod symbol;
 mod symbols;
 

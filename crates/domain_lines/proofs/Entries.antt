@@ -6,8 +6,8 @@ use Rattle.std.proofs.lemmas.Bool.{eqb-true, false_from_ne_true, false≢true}
 use Rattle.std.proofs.lemmas.List.{append-nil}
 use Rattle.std.proofs.lemmas.List.Folds.{list_any-append}
 use Rattle.domain_label.specs.Wire.{Root}
-use Rattle.domain_record.specs.Entries.{RecordFields}
-use Rattle.domain_edns.specs.Options.{BeginsWithOption, EndsInOption}
+use Rattle.domain_message.specs.Entries.{RecordFields}
+use Rattle.domain_message.specs.Options.{BeginsWithOption, EndsInOption}
 use Rattle.domain_lines.specs.Edns.{edns_line, another_text, option_line, cut_option_line, AreOptionLines}
 use Rattle.domain_lines.specs.Edns.AreOptionLines.{no_more, option, cut}
 use Rattle.domain_lines.specs.Records.{is_root, rdata_octets, IsOptText}

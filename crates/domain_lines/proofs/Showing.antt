@@ -10,9 +10,9 @@ use Rattle.octseq.specs.Parsing.{message, position, MovesTo}
 use Rattle.domain_wire.specs.declared.error.ParseError.{ParseError}
 use Rattle.domain_wire.specs.declared.error.ParseError.TheVariants.{ShortInput}
 use Rattle.domain_header.specs.Numbers.{number16}
-use Rattle.domain_record.specs.Entries.{QuestionAt, NoQuestion, RecordFields, RecordAt, NoRecord}
-use Rattle.domain_record.specs.Facts.{same_message}
-use Rattle.domain_message.specs.Facts.{run_and}
+use Rattle.domain_message.specs.Entries.{QuestionAt, NoQuestion, RecordFields, RecordAt, NoRecord}
+use Rattle.domain_message.specs.ParserFacts.{same_message}
+use Rattle.domain_message.specs.RunFacts.{run_and}
 use Rattle.domain_message.specs.Sections.{Run, counted_records}
 use Rattle.domain_message.specs.declared.section.Section.{Section}
 use Rattle.domain_message.specs.declared.section.Section.TheVariants.{Answer, Authority, Additional}

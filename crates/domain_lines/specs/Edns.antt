@@ -6,8 +6,8 @@ use Rattle.domain_label.specs.Hex.{hex_digit}
 use Rattle.domain_wire.specs.Refusals.{refusal, refusal_text}
 use Rattle.domain_wire.specs.declared.error.ParseError.{ParseError}
 use Rattle.domain_wire.specs.declared.error.ParseError.TheVariants.{ShortInput}
-use Rattle.domain_edns.specs.Options.{BeginsWithOption, EndsInOption}
-use Rattle.domain_edns.specs.OptRecords.{upper_code, edns_version, dnssec_ok_bit}
+use Rattle.domain_message.specs.Options.{BeginsWithOption, EndsInOption}
+use Rattle.domain_message.specs.OptRecords.{upper_code, edns_version, dnssec_ok_bit}
 use Rattle.domain_header.specs.Bits.{bit}
 use Rattle.domain_rdata.specs.AnyData.{spaced_octet, unknown_text}
 use Rattle.domain_lines.specs.Flags.{flag_text}

@@ -6,7 +6,7 @@ use Rattle.std.proofs.lemmas.Slice.{between_is}
 use Rattle.domain_label.specs.Text.{text_with_final_dot}
 use Rattle.domain_header.specs.Numbers.{number16, number32}
 use Rattle.domain_rdata.specs.AnyData.{unknown_text}
-use Rattle.domain_record.specs.Entries.{QuestionFields, QuestionAt, RecordFields, RecordAt}
+use Rattle.domain_message.specs.Entries.{QuestionFields, QuestionAt, RecordFields, RecordAt}
 use Rattle.domain_tool.specs.Lines.{IsQuestion, IsRecord}
 use Rattle.domain_lines.specs.Records.{rdata_octets}
 

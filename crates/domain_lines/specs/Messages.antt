@@ -7,9 +7,9 @@ use Rattle.domain_wire.specs.declared.error.ParseError.TheVariants.{ShortInput}
 use Rattle.domain_header.specs.Bits.{bits, bit}
 use Rattle.domain_header.specs.Numbers.{number16}
 use Rattle.domain_header.specs.Tables.{opcode_text, rcode_text}
-use Rattle.domain_record.specs.Entries.{QuestionFields, QuestionAt, NoQuestion, RecordAt, NoRecord}
+use Rattle.domain_message.specs.Entries.{QuestionFields, QuestionAt, NoQuestion, RecordAt, NoRecord}
 use Rattle.domain_message.specs.Sections.{Run, counted_records}
-use Rattle.domain_record.specs.Texts.{question_text}
+use Rattle.domain_message.specs.Texts.{question_text}
 use Rattle.domain_message.specs.declared.section.Section.{Section}
 use Rattle.domain_message.specs.declared.section.Section.TheVariants.{Answer, Authority, Additional}
 use Rattle.domain_lines.specs.Flags.{flag_text}

@@ -1,7 +1,7 @@
 -- What a call leaves in the caller's buffer.
 use Rattle.std.specs.Prelude.{◌≡◌, ℕ, List, [], ◌∷◌, ◌++◌, Option, Some, None}
 use Rattle.domain_wire.specs.declared.error.ParseError.{ParseError}
-use Rattle.domain_record.specs.Entries.{RecordFields, RecordAt, NoRecord}
+use Rattle.domain_message.specs.Entries.{RecordFields, RecordAt, NoRecord}
 use Rattle.domain_lines.specs.Messages.{ShowsMessage, StopsShowing}
 use Rattle.domain_lines.specs.Records.{IsRecordLine}
 use Rattle.domain_lines.specs.Rooms.{HoldsText}

@@ -6,8 +6,8 @@ use Rattle.domain_wire.specs.declared.error.ParseError.{ParseError}
 use Rattle.domain_label.specs.Text.{text_with_final_dot}
 use Rattle.domain_header.specs.Tables.{class_text}
 use Rattle.domain_header.specs.Rtypes.{rtype_text}
-use Rattle.domain_record.specs.Entries.{RecordFields}
-use Rattle.domain_record.specs.Texts.{spaced, record_text, text_before_data}
+use Rattle.domain_message.specs.Entries.{RecordFields}
+use Rattle.domain_message.specs.Texts.{spaced, record_text, text_before_data}
 use Rattle.domain_message.specs.declared.section.Section.{Section}
 use Rattle.domain_message.specs.declared.section.Section.TheVariants.{Answer, Authority, Additional}
 use Rattle.domain_rdata.specs.AnyData.{unknown_text}

@@ -7,9 +7,9 @@ use Rattle.octseq.specs.declared.parse.Parser.{Parser}
 use Rattle.domain_wire.specs.declared.error.ParseError.{ParseError}
 use Rattle.domain_header.specs.Values.{rcode_number}
 use Rattle.domain_header.specs.declared.code.Rcode.{Rcode}
-use Rattle.domain_record.specs.Entries.{QuestionAt, NoQuestion, RecordFields, RecordAt, NoRecord}
-use Rattle.domain_record.specs.RecordModel.{record_fields}
-use Rattle.domain_record.specs.declared.record.ParsedRecord.{ParsedRecord}
+use Rattle.domain_message.specs.Entries.{QuestionAt, NoQuestion, RecordFields, RecordAt, NoRecord}
+use Rattle.domain_message.specs.RecordModel.{record_fields}
+use Rattle.domain_message.specs.declared.record.ParsedRecord.{ParsedRecord}
 use Rattle.domain_message.specs.declared.section.Section.{Section}
 use Rattle.domain_lines.specs.Edns.{AreOptionLines}
 use Rattle.domain_lines.specs.declared.streams.Source.{Ghosts as SourceMembers}

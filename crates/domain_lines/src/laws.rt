@@ -1,6 +1,6 @@
 //! Laws of the lines of questions and records, for callers.
 ghost use Rattle.std.specs.Prelude.{◌≡◌, ℕ, List};
-ghost use Rattle.domain_record.specs.Entries.{QuestionFields, QuestionAt, RecordFields, RecordAt};
+ghost use Rattle.domain_message.specs.Entries.{QuestionFields, QuestionAt, RecordFields, RecordAt};
 ghost use Rattle.domain_tool.specs.Lines.{IsQuestion, IsRecord};
 ghost use Rattle.domain_lines.specs.Listed.{asked_line, listed_line};
 

@@ -5,7 +5,7 @@ ghost use Rattle.domain_lines.specs.Putting.{MessagePut, RecordPut};
 use crate::message::write_message;
 use crate::record::write_record;
 use crate::room::Room;
-use domain_record::ParsedRecord;
+use domain_message::ParsedRecord;
 use domain_tool::tool::ToolError;
 use domain_wire::ParseError;
 use domain_wire::parse::Parse;

@@ -1,6 +1,6 @@
 //! The lines of a record.
 ghost use Rattle.std.specs.Prelude.{◌≡◌, ◌↔◌, Some, IsTrue, OnOk, OnErr, IfOk};
-ghost use Rattle.domain_record.specs.RecordModel.{record_fields};
+ghost use Rattle.domain_message.specs.RecordModel.{record_fields};
 ghost use Rattle.domain_lines.specs.Records.{bare_text, unread_text, IsBare, has_opt_head, is_opt_in};
 ghost use Rattle.domain_lines.specs.Edns.{another_text};
 ghost use Rattle.domain_lines.specs.Writing.{PutsLine, PutsOpt, PutsEntry, TellsOpt};
@@ -9,9 +9,8 @@ use crate::edns::{EdnsLine, write_options};
 use crate::streams::Sink;
 use domain_all_data::AllRecordData;
 use domain_header::Rcode;
-use domain_message::Section;
+use domain_message::{ParsedRecord, Record, RtypeText, Section};
 use domain_rdata::ParseAnyRecordData;
-use domain_record::{ParsedRecord, Record, RtypeText};
 use domain_tool::tool::WriteFault;
 use domain_traits::ToName;
 use domain_wire::ParseError;

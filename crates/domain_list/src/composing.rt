@@ -1,5 +1,5 @@
 //! Writing names in wire format, without compression (RFC 1035, 3.1).
-ghost use Rattle.std.specs.Prelude.{◌≡◌, ◌≤◌, ◌+◌, ◌++◌, [], length, take, IfSome, OnOk, OnErr};
+ghost use Rattle.std.specs.Prelude.{◌≡◌, ◌≤◌, ◌<◌, ◌+◌, ◌++◌, [], length, take, IfSome, OnOk, OnErr};
 ghost use Rattle.domain_label.specs.Lowercase.{lowercase, lowercase_labels};
 ghost use Rattle.domain_label.specs.Labels.{label_octets};
 ghost use Rattle.domain_label.specs.Wire.{wire, wire_label};
@@ -140,6 +140,7 @@ pub fn compose_name<'a, N: ToLabelIter<'a>, Target: OctetsBuilder>(
     ensures unchanged { OnErr result (Target.octets target.new ≡ Target.octets target.old) }
     ensures nothing { OnErr result (Target.extends target.old [] target.new) }
     ensures full { OnErr result (NameLacksRoom Target.Octets (N.labels name.now) target.old) }
+    ensures some { OnErr result (0 < length (wire (N.labels name.now))) }
     ensures capacity { Target.capacity target.old ≤ Target.capacity target.new }
     ensures within { IfSome Target.limit (λ n. length (Target.octets target.new) ≤ n) }
     ensures fixed { IfSome Target.limit (λ n. Target.capacity target.old ≡ n) }
@@ -168,6 +169,7 @@ pub fn compose_canonical_name<'a, N: ToLabelIter<'a>, Target: OctetsBuilder>(
     ensures unchanged { OnErr result (Target.octets target.new ≡ Target.octets target.old) }
     ensures nothing { OnErr result (Target.extends target.old [] target.new) }
     ensures full { OnErr result (LowercaseLacksRoom Target.Octets (N.labels name.now) target.old) }
+    ensures some { OnErr result (0 < length (wire (lowercase_labels (N.labels name.now)))) }
     ensures capacity { Target.capacity target.old ≤ Target.capacity target.new }
     ensures within { IfSome Target.limit (λ n. length (Target.octets target.new) ≤ n) }
     ensures fixed { IfSome Target.limit (λ n. Target.capacity target.old ≡ n) }

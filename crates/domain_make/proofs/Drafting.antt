@@ -2,7 +2,7 @@
 use Rattle.std.proofs.Common.{◌≡◌, ℕ, ◌+◌, ◌<◌, ◌≤◌, Bool, true, List, [], ◌∷◌, length, refl, sym, ap, subst, ◌∙◌, arith, add-one}
 use Rattle.std.specs.Prelude.{◌≢◌, slice_index, slice_range, Result, Ok, Err, OnOk, Option, Some, None, IfSome}
 use Rattle.domain_header.specs.declared.flags.Header.{Header}
-use Rattle.domain_record.specs.Entries.{QuestionFields}
+use Rattle.domain_message.specs.Entries.{QuestionFields}
 use Rattle.domain_message.specs.declared.section.Section.{Section}
 use Rattle.domain_message_builder.specs.Contents.{Content, RecordHead, no_content, question_added, Holds}
 use Rattle.domain_message_builder.specs.Pushes.{with_header, record_added, IsBegun, PushesQuestion, PushesRecord}

@@ -8,7 +8,7 @@ use Rattle.domain_header.specs.Mnemonics.{Row, NumberOf}
 use Rattle.domain_header.specs.Mnemonics.NumberOf.{nowhere, here, later}
 use Rattle.domain_header.specs.Numbered.{Named, IsNumbered}
 use Rattle.domain_header.specs.Numbered.Named.{by_mnemonic, by_number, nothing}
-use Rattle.domain_record.specs.Entries.{QuestionFields}
+use Rattle.domain_message.specs.Entries.{QuestionFields}
 use Rattle.domain_message_builder.specs.Contents.{RecordHead}
 use Rattle.domain_header.specs.Rtypes.{rtype_rows}
 use Rattle.domain_header.specs.Tables.{class_rows}

@@ -2,7 +2,7 @@
 use Rattle.std.proofs.Common.{◌≡◌, ℕ, suc, ◌+◌, ◌<◌, ◌≤◌, Bool, List, [], ◌∷◌, length, get_or, refl, sym, ap, subst, ◌∙◌, arith, inl, inr}
 use Rattle.std.specs.Prelude.{◌≢◌, ◌⊎◌, slice_index, slice_range}
 use Rattle.std.proofs.lemmas.Bool.{cases_lt, cases_order}
-use Rattle.domain_record.specs.Entries.{QuestionFields}
+use Rattle.domain_message.specs.Entries.{QuestionFields}
 use Rattle.domain_message.specs.declared.section.Section.{Section}
 use Rattle.domain_message.specs.declared.section.Section.TheVariants.{Answer, Authority, Additional}
 use Rattle.domain_message_builder.specs.Contents.{RecordHead, AsksIn, RecordsIn}

@@ -2,7 +2,7 @@
 use Rattle.std.specs.Prelude.{◌≡◌, ◌⊎◌, ◌≢◌, ℕ, suc, ◌+◌, ◌<◌, ◌≤◌, Bool, List, [], length, slice_index, slice_range}
 use Rattle.domain_header.specs.Headers.{header_id, header_high, header_low}
 use Rattle.domain_header.specs.declared.flags.Header.{Header}
-use Rattle.domain_record.specs.Entries.{QuestionFields}
+use Rattle.domain_message.specs.Entries.{QuestionFields}
 use Rattle.domain_message_builder.specs.Contents.{Content, RecordHead, no_content, question_added, Holds}
 use Rattle.domain_message_builder.specs.Pushes.{record_added}
 use Rattle.domain_message_builder.specs.State.{State}

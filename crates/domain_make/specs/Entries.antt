@@ -4,7 +4,7 @@ use Rattle.std.specs.Str.{IsUtf8}
 use Rattle.domain_header.specs.Numbered.{Named}
 use Rattle.domain_header.specs.Rtypes.{rtype_rows}
 use Rattle.domain_header.specs.Tables.{class_rows}
-use Rattle.domain_record.specs.Entries.{QuestionFields}
+use Rattle.domain_message.specs.Entries.{QuestionFields}
 use Rattle.domain_message_builder.specs.Contents.{RecordHead}
 use Rattle.domain_data_text.specs.Data.{IsData}
 use Rattle.domain_data_text.specs.Parts.{IsNameWord, IsNumber32}

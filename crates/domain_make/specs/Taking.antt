@@ -6,9 +6,9 @@ use Rattle.domain_name.specs.Names.{name_labels}
 use Rattle.domain_name.specs.declared.absolute.Name.{Name}
 use Rattle.domain_rdata.specs.Unknown.{data_octets, data_type}
 use Rattle.domain_rdata.specs.declared.unknown.UnknownRecordData.{UnknownRecordData}
-use Rattle.domain_record.specs.Entries.{QuestionFields}
-use Rattle.domain_record.specs.RecordParts.{data_of}
-use Rattle.domain_record.specs.declared.resource_record.Record.{Record}
+use Rattle.domain_message.specs.Entries.{QuestionFields}
+use Rattle.domain_message.specs.RecordParts.{data_of}
+use Rattle.domain_message.specs.declared.resource_record.Record.{Record}
 use Rattle.domain_message.specs.declared.section.Section.{Section}
 use Rattle.domain_message_builder.specs.Builders.{state}
 use Rattle.domain_message_builder.specs.Contents.{RecordHead}

@@ -16,10 +16,9 @@ use domain_data_text::error::{Fault, Stop};
 use domain_data_text::parts::{OwnName, name_of, number32_of, text_of};
 use domain_data_text::words::Word;
 use domain_header::{Class, Ttl};
-use domain_message::Section;
+use domain_message::{Question, Record, Section, rtype_from_text};
 use domain_message_builder::{MessageBuilder, PushError};
 use domain_rdata::{Composer, Rtype, UnknownRecordData};
-use domain_record::{Question, Record, rtype_from_text};
 use octseq::Octets;
 use std::alloc::Global;
 

@@ -10,11 +10,11 @@ use Rattle.domain_message.specs.Aliases.ChainEnd.{ends}
 use Rattle.domain_message.specs.Aliases.ChainEndWithin.{ends_within, leads_on}
 use Rattle.domain_message.specs.AliasLaws.{count_more, count_same, leads_then, many_go_round}
 use Rattle.domain_message.specs.AliasParts.{GivenBy, GivesAlias, GivesCnames, EndsBefore, LeadsOn, Asked}
-use Rattle.domain_record.specs.Entries.{QuestionAt, NoQuestion, RecordFields, RecordAt, NoRecord}
-use Rattle.domain_record.specs.Facts.{same_message}
-use Rattle.domain_record.specs.Readings.{record_reading, record_once, record_decided}
-use Rattle.domain_record.specs.RecordModel.{record_fields}
-use Rattle.domain_record.specs.Once.{NoneAt}
+use Rattle.domain_message.specs.Entries.{QuestionAt, NoQuestion, RecordFields, RecordAt, NoRecord}
+use Rattle.domain_message.specs.ParserFacts.{same_message}
+use Rattle.domain_message.specs.Readings.{record_reading, record_once, record_decided}
+use Rattle.domain_message.specs.RecordModel.{record_fields}
+use Rattle.domain_message.specs.Once.{NoneAt}
 use Rattle.domain_message.specs.Runs.{Given, given_first, given_nothing, given_some}
 use Rattle.domain_message.specs.Sections.{GivesRecord, GivesQuestion, records_message, records_offset, records_left, questions_message, questions_offset, questions_left, entries_left, Begins, QuestionsTo, NoQuestions}
 use Rattle.octseq.specs.declared.octets.Octets.{Ghosts}
@@ -22,13 +22,13 @@ use Rattle.octseq.specs.declared.parse.Parser.{Parser}
 use Rattle.octseq.specs.Parsing.{message, position, MovesTo}
 use Rattle.domain_parsed.specs.declared.parsed.ParsedName.{ParsedName}
 use Rattle.domain_parsed.specs.ParsedNames.{parsed_labels}
-use Rattle.domain_record.specs.Models.{question_fields}
-use Rattle.domain_record.specs.declared.question.Question.{Question}
+use Rattle.domain_message.specs.Models.{question_fields}
+use Rattle.domain_message.specs.declared.question.Question.{Question}
 use Rattle.domain_message.specs.Sections.Misses.{now}
 use Rattle.domain_header.specs.Numbers.{number16}
 use Rattle.domain_message.specs.declared.section.Section.TheVariants.{Answer}
 use Rattle.domain_message.specs.declared.section.QuestionSection.{QuestionSection}
-use Rattle.domain_record.specs.declared.record.ParsedRecord.{ParsedRecord}
+use Rattle.domain_message.specs.declared.record.ParsedRecord.{ParsedRecord}
 use Rattle.domain_message.specs.declared.section.RecordSection.{RecordSection}
 
 -- what is found in what is left is found in all

@@ -7,9 +7,9 @@ use Rattle.octseq.specs.declared.parse.Parser.{Parser}
 use Rattle.octseq.specs.Parsing.{message, position, MovesTo}
 use Rattle.domain_message.specs.Answering.{same_question, SameQuestions, SameNext, OtherNext}
 use Rattle.domain_wire.specs.declared.error.ParseError.{ParseError}
-use Rattle.domain_record.specs.Entries.{QuestionFields, QuestionAt, NoQuestion}
-use Rattle.domain_record.specs.Facts.{same_message}
-use Rattle.domain_record.specs.Readings.{question_once, question_reading}
+use Rattle.domain_message.specs.Entries.{QuestionFields, QuestionAt, NoQuestion}
+use Rattle.domain_message.specs.ParserFacts.{same_message}
+use Rattle.domain_message.specs.Readings.{question_once, question_reading}
 use Rattle.domain_message.specs.Sections.{Run}
 
 same_none : (m : List ℕ) (p : ℕ) (o : List ℕ) (q : ℕ) → SameQuestions m p o q 0

@@ -1,5 +1,9 @@
 pub mod Aliases
 pub mod Comparing
+pub mod ComposingRecords
+pub mod DataStanding
+pub mod FindingOpt
+pub mod Names
 pub mod OneList
 pub mod Sections
 pub mod Skipping

@@ -2,10 +2,10 @@
 use Rattle.std.proofs.Common.{◌≡◌, ℕ, ◌+◌, List, [], ◌∷◌, length, refl, ap, subst, inl, ◌∙◌, arith}
 use Rattle.std.specs.Prelude.{Bool, true, false, cond}
 use Rattle.std.specs.List.{filter}
-use Rattle.domain_record.specs.Entries.{QuestionAt, RecordFields, RecordAt}
+use Rattle.domain_message.specs.Entries.{QuestionAt, RecordFields, RecordAt}
 use Rattle.domain_message.specs.Kept.{AreOthers}
-use Rattle.domain_message.specs.Laws.{GivesOneList, FirstIsKept, NoneIsKept}
-use Rattle.domain_record.specs.Readings.{question_once, question_decided, record_once, record_decided}
+use Rattle.domain_message.specs.SectionLaws.{GivesOneList, FirstIsKept, NoneIsKept}
+use Rattle.domain_message.specs.Readings.{question_once, question_decided, record_once, record_decided}
 use Rattle.domain_message.specs.Runs.{Given, given_first, given_nothing, given_once, given_some}
 use Rattle.domain_message.specs.Sections.{Run}
 

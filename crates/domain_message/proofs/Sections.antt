@@ -7,12 +7,12 @@ use Rattle.domain_wire.specs.declared.error.ParseError.{ParseError}
 use Rattle.domain_message.specs.Sections.{Run, entries_left, counted_records, Begins, BeginsAfter, Misses, QuestionsTo, RecordsTo, NoRecords, records_section, records_message, records_offset, records_left}
 use Rattle.domain_header.specs.Numbers.{number16}
 use Rattle.domain_message.specs.SectionOrder.{section_after}
-use Rattle.domain_record.specs.Entries.{QuestionAt, RecordAt, NoRecord}
+use Rattle.domain_message.specs.Entries.{QuestionAt, RecordAt, NoRecord}
 use Rattle.domain_message.specs.Sections.Misses.{now}
 use Rattle.domain_message.specs.declared.section.RecordSection.{RecordSection}
 use Rattle.domain_message.specs.declared.section.Section.{Section}
-use Rattle.domain_record.specs.Facts.{same_message}
-use Rattle.domain_message.specs.Facts.{run_and}
+use Rattle.domain_message.specs.ParserFacts.{same_message}
+use Rattle.domain_message.specs.RunFacts.{run_and}
 
 -- The parser skipped n entries.
 pub record Skipped {V : Type 0} (At : List ℕ → ℕ → V → ℕ → Type 0) (old : Parser) (n : ℕ) (new : Parser) : Type 0 where

@@ -4,8 +4,8 @@ use Rattle.std.specs.Prelude.{Bool, true, false}
 use Rattle.octseq.specs.declared.parse.Parser.{Parser}
 use Rattle.octseq.specs.Parsing.{message, position}
 use Rattle.domain_wire.specs.declared.error.ParseError.{ParseError}
-use Rattle.domain_record.specs.Entries.{RecordFields, RecordAt, NoRecord}
-use Rattle.domain_message.specs.Facts.{run_and}
+use Rattle.domain_message.specs.Entries.{RecordFields, RecordAt, NoRecord}
+use Rattle.domain_message.specs.RunFacts.{run_and}
 use Rattle.domain_message.specs.Kept.{AreOthers, FirstKept, NoneKept, MissesKept, BreaksKept}
 use Rattle.domain_message.specs.Sections.{Run}
 

@@ -11,8 +11,8 @@ use Rattle.domain_message.specs.Aliases.Leads.{stays, goes}
 use Rattle.domain_message.specs.Aliases.ChainEnd.{ends, goes_round}
 use Rattle.domain_message.specs.Aliases.ChainEndWithin.{ends_within, leads_on}
 use Rattle.domain_message.specs.Aliases.FirstAlias.{nowhere, here, later}
-use Rattle.domain_record.specs.Entries.{WholeNameAt, RecordFields}
-use Rattle.domain_record.specs.Readings.{name_once}
+use Rattle.domain_message.specs.Entries.{WholeNameAt, RecordFields}
+use Rattle.domain_message.specs.Readings.{name_once}
 
 pub first_once : (name : List (List ℕ)) (rs : List RecordFields) (a b : Option (List (List ℕ)))
     → FirstAlias name rs a → FirstAlias name rs b → a ≡ b

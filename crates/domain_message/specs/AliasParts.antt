@@ -4,9 +4,9 @@ use Rattle.octseq.specs.declared.octets.Octets.{Ghosts}
 use Rattle.domain_parsed.specs.ParsedNames.{parsed_labels}
 use Rattle.domain_parsed.specs.declared.parsed.ParsedName.{ParsedName}
 use Rattle.domain_message.specs.Aliases.{IsAlias, FirstAlias, Leads, OfFirstQuestion, IsCanonical, IsCanonicalWithin, cname_count}
-use Rattle.domain_record.specs.Entries.{QuestionFields, QuestionAt, RecordFields, RecordAt}
-use Rattle.domain_record.specs.RecordModel.{record_fields}
-use Rattle.domain_record.specs.declared.record.ParsedRecord.{ParsedRecord}
+use Rattle.domain_message.specs.Entries.{QuestionFields, QuestionAt, RecordFields, RecordAt}
+use Rattle.domain_message.specs.RecordModel.{record_fields}
+use Rattle.domain_message.specs.declared.record.ParsedRecord.{ParsedRecord}
 use Rattle.domain_message.specs.MessageParts.{CountsNoQuestion, HasMissingQuestion}
 use Rattle.domain_message.specs.Messages.{message_octets}
 use Rattle.domain_message.specs.Runs.{Given}

@@ -3,7 +3,7 @@
 use Rattle.std.specs.Prelude.{◌≡◌, ◌==◌, ◌<◌, ◌≤◌, if◌then◌else◌, ℕ, suc, ◌+◌, List, [], ◌∷◌, length, Option, Some, None}
 use Rattle.domain_label.specs.Lowercase.{lowercase_labels}
 use Rattle.domain_header.specs.Numbers.{number16}
-use Rattle.domain_record.specs.Entries.{WholeNameAt, QuestionFields, QuestionAt, RecordFields, RecordAt}
+use Rattle.domain_message.specs.Entries.{WholeNameAt, QuestionFields, QuestionAt, RecordFields, RecordAt}
 use Rattle.domain_message.specs.Runs.{Given}
 use Rattle.domain_message.specs.Sections.{QuestionsTo}
 

@@ -7,7 +7,7 @@ use Rattle.octseq.specs.declared.parse.Parser.{Parser}
 use Rattle.domain_list.specs.Order.{same_name}
 use Rattle.domain_header.specs.Bits.{bit}
 use Rattle.domain_header.specs.Numbers.{number16}
-use Rattle.domain_record.specs.Entries.{QuestionFields, QuestionAt}
+use Rattle.domain_message.specs.Entries.{QuestionFields, QuestionAt}
 use Rattle.domain_message.specs.Sections.{Run}
 
 -- Equal questions: their types and classes are equal, and their names ignoring ASCII case.

@@ -7,13 +7,13 @@ use Rattle.domain_wire.specs.declared.error.ParseError.{ParseError}
 use Rattle.domain_parsed.specs.declared.parsed.ParsedName.{ParsedName}
 use Rattle.domain_parsed.specs.ParsedNames.{parsed_labels}
 use Rattle.domain_header.specs.Values.{class_number, ttl_seconds}
-use Rattle.domain_record.specs.Entries.{RecordFields, RecordAt, NoRecord}
-use Rattle.domain_record.specs.RecordParts.{owner_of, class_of, ttl_of, data_of}
-use Rattle.domain_record.specs.RecordModel.{record_fields}
+use Rattle.domain_message.specs.Entries.{RecordFields, RecordAt, NoRecord}
+use Rattle.domain_message.specs.RecordParts.{owner_of, class_of, ttl_of, data_of}
+use Rattle.domain_message.specs.RecordModel.{record_fields}
 use Rattle.domain_message.specs.Members.{ParseMembers}
 use Rattle.domain_message.specs.Sections.{Run}
-use Rattle.domain_record.specs.declared.record.ParsedRecord.{ParsedRecord}
-use Rattle.domain_record.specs.declared.resource_record.Record.{Record}
+use Rattle.domain_message.specs.declared.record.ParsedRecord.{ParsedRecord}
+use Rattle.domain_message.specs.declared.resource_record.Record.{Record}
 use Rattle.domain_message.specs.declared.kept.RecordIter.{RecordIter}
 
 -- Whether the class of a record is asked for: IN, or any.

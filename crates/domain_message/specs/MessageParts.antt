@@ -4,9 +4,9 @@ use Rattle.octseq.specs.declared.octets.Octets.{Ghosts}
 use Rattle.domain_wire.specs.declared.error.ParseError.{ParseError}
 use Rattle.domain_parsed.specs.declared.parsed.ParsedName.{ParsedName}
 use Rattle.domain_header.specs.Numbers.{number16}
-use Rattle.domain_record.specs.Entries.{QuestionAt, NoQuestion}
-use Rattle.domain_record.specs.Models.{question_fields}
-use Rattle.domain_record.specs.declared.question.Question.{Question}
+use Rattle.domain_message.specs.Entries.{QuestionAt, NoQuestion}
+use Rattle.domain_message.specs.Models.{question_fields}
+use Rattle.domain_message.specs.declared.question.Question.{Question}
 use Rattle.domain_message.specs.Messages.{message_octets}
 use Rattle.domain_message.specs.Sections.{Begins, QuestionsTo, AnswersTo, AuthorityTo, NoQuestions}
 use Rattle.domain_message.specs.declared.message.Message.{Message}

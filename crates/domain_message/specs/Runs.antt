@@ -1,7 +1,7 @@
 -- The entries that a section gives. An entry is a question or a record.
 use Rattle.std.specs.Prelude.{◌≡◌, ℕ, suc, zero, ◌+◌, ◌<◌, ◌≤◌, ◌⊎◌, List, [], ◌∷◌, length}
 use Rattle.std.proofs.Common.{arith, sym, subst, refl, inl, inr, ◌∙◌}
-pub use Rattle.domain_record.specs.Once.{NoneAt, IsOnce, IsDecided}
+pub use Rattle.domain_message.specs.Once.{NoneAt, IsOnce, IsDecided}
 use Rattle.domain_message.specs.Sections.{Run}
 
 -- The entries from p on are xs: n of them, or fewer, up to where none is.

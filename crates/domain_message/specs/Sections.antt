@@ -4,12 +4,12 @@ use Rattle.octseq.specs.declared.octets.Octets.{Ghosts}
 use Rattle.octseq.specs.Parsing.{message, position}
 use Rattle.domain_wire.specs.declared.error.ParseError.{ParseError}
 use Rattle.domain_parsed.specs.declared.parsed.ParsedName.{ParsedName}
-use Rattle.domain_record.specs.Entries.{QuestionFields, QuestionAt, NoQuestion, RecordFields, RecordAt, NoRecord}
-use Rattle.domain_record.specs.Models.{question_fields}
-use Rattle.domain_record.specs.RecordModel.{record_fields}
+use Rattle.domain_message.specs.Entries.{QuestionFields, QuestionAt, NoQuestion, RecordFields, RecordAt, NoRecord}
+use Rattle.domain_message.specs.Models.{question_fields}
+use Rattle.domain_message.specs.RecordModel.{record_fields}
 use Rattle.domain_header.specs.Numbers.{number16}
-use Rattle.domain_record.specs.declared.question.Question.{Question}
-use Rattle.domain_record.specs.declared.record.ParsedRecord.{ParsedRecord}
+use Rattle.domain_message.specs.declared.question.Question.{Question}
+use Rattle.domain_message.specs.declared.record.ParsedRecord.{ParsedRecord}
 use Rattle.domain_message.specs.SectionOrder.{section_after}
 use Rattle.domain_message.specs.declared.section.QuestionSection.{QuestionSection}
 use Rattle.domain_message.specs.declared.section.RecordSection.{RecordSection}

@@ -3,7 +3,7 @@ use Rattle.std.specs.Prelude.{◌≡◌, ℕ, ◌<◌, List, codes}
 use Rattle.domain_wire.specs.declared.error.ParseError.{ParseError}
 use Rattle.domain_wire.specs.Refusals.{refusal, form}
 use Rattle.domain_header.specs.Numbers.{number16}
-use Rattle.domain_record.specs.Entries.{NoQuestion}
+use Rattle.domain_message.specs.Entries.{NoQuestion}
 
 -- The header doesn't count one question, or it is missing, and the error says which.
 pub data NoSoleQuestion (m : List ℕ) (why : ParseError) : Type 0 where

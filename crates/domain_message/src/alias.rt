@@ -7,9 +7,9 @@ ghost use Rattle.domain_message.specs.MessageParts.{CountsNoQuestion, HasMissing
 
 use crate::message::Message;
 use crate::passes::Passes;
+use crate::record::ParsedRecord;
 use crate::section::RecordSection;
 use domain_parsed::ParsedName;
-use domain_record::ParsedRecord;
 use domain_traits::ToName;
 use domain_wire::parse::Parse;
 use octseq::Octets;

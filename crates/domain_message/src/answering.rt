@@ -5,7 +5,7 @@ ghost use Rattle.domain_message.specs.Answering.{IsAnswerTo, SameQuestions, Read
 ghost use Rattle.domain_message.specs.Messages.{message_octets};
 
 use crate::message::Message;
-use domain_record::Question;
+use crate::question::Question;
 use domain_wire::parse::Parse;
 use octseq::{Octets, Parser};
 

@@ -4,12 +4,13 @@ ghost use Rattle.std.specs.Iterator.{at_most};
 ghost use Rattle.octseq.specs.Parsing.{message, position};
 ghost use Rattle.domain_message.specs.Kept.{HasOtherType, IsReadOf, DataFails, KeepsAs, PassesRecord, KeepsButFails, TakesNext};
 ghost use Rattle.domain_message.specs.Kept.{GivesKept, kept_parser, kept_left, kept_class};
-ghost use Rattle.domain_record.specs.RecordModel.{record_fields};
+ghost use Rattle.domain_message.specs.RecordModel.{record_fields};
 
+use crate::record::ParsedRecord;
+use crate::resource_record::Record;
 use crate::section::RecordSection;
 use domain_parsed::ParsedName;
 use domain_rdata::{ParseRecordData, Rtype};
-use domain_record::{ParsedRecord, Record};
 use domain_wire::ParseError;
 use domain_wire::parse::Parse;
 use octseq::Parser;

@@ -1,17 +1,35 @@
-//! Messages: a header, questions, and records in three sections (RFC 1035, 4.1).
+//! Messages (RFC 1035, 4.1): a header, questions, and records in three sections; OPT records (RFC 6891).
 #![tactic(auto)]
 
 mod alias;
 mod answering;
+pub mod edns;
+pub mod edns_data;
+pub mod edns_options;
 pub mod kept;
+pub mod known_options;
 pub mod laws;
 pub mod message;
 pub mod passes;
+pub mod question;
+pub mod record;
+pub mod resource_record;
+pub mod rtype_text;
 pub mod section;
 
-pub use domain_header::{Header, HeaderCounts, HeaderSection, Opcode, Rcode, ShortMessage};
+pub use domain_header::{
+    Class, Header, HeaderCounts, HeaderSection, Opcode, Rcode, ShortMessage, Ttl,
+};
+pub use edns::{OptError, OptRecord, opt_of};
+pub use edns_data::OptData;
+pub use edns_options::{EdnsOption, OptIter};
 pub use kept::RecordIter;
-pub use laws::section_laws;
+pub use known_options::{ClientSubnet, Cookie, ExtendedError, Nsid};
+pub use laws::{entry_laws, reads_back_laws, section_laws};
 pub use message::Message;
 pub use passes::Passes;
+pub use question::Question;
+pub use record::{ParsedRecord, RecordHeader};
+pub use resource_record::Record;
+pub use rtype_text::{RtypeText, rtype_from_mnemonic, rtype_from_text, rtype_mnemonic};
 pub use section::{QuestionSection, RecordSection, Section};

@@ -1,10 +1,10 @@
 //! Messages.
 ghost use Rattle.std.specs.Prelude.{◌≡◌, ◌≤◌, ◌<◌, ◌↔◌, ◌⊎◌, length, slice_index, IfOk, IfErr, IfSome, IsErr, IsNone, Ok};
 
+use crate::question::Question;
 use crate::section::{QuestionSection, RecordSection};
 use domain_header::{Header, HeaderCounts, ShortMessage};
 use domain_parsed::ParsedName;
-use domain_record::Question;
 use domain_wire::ParseError;
 use domain_wire::parse::Parse;
 use octseq::{Octets, Parser};
@@ -40,7 +40,7 @@ impl<Octs: Octets> Message<Octs> {
     ghost use Rattle.domain_message.specs.Sections.{questions_message, questions_offset, questions_left, NoQuestions, NoAnswers, NoAuthority};
     ghost use Rattle.domain_message.specs.MessageParts.{CountsNoQuestion, CountsOneQuestion, CountsQuestions, StandsFirst, LacksFirstQuestion};
     ghost use Rattle.domain_message.specs.MessageParts.{IsAnswerSection, IsAuthoritySection, IsAdditionalSection};
-    ghost use Rattle.domain_record.specs.Entries.{NoQuestion};
+    ghost use Rattle.domain_message.specs.Entries.{NoQuestion};
     ghost use Rattle.domain_message.specs.Sole.{NoSoleQuestion};
 
     /// The octets.

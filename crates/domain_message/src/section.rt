@@ -3,9 +3,10 @@ ghost use Rattle.std.specs.Prelude.{◌≡◌, ◌≤◌, length, IfOk, IfErr, I
 ghost use Rattle.std.specs.Iterator.{at_most};
 ghost use Rattle.octseq.specs.Parsing.{message, position};
 
+use crate::question::Question;
+use crate::record::ParsedRecord;
 use domain_header::HeaderCounts;
 use domain_parsed::ParsedName;
-use domain_record::{ParsedRecord, Question};
 use domain_wire::ParseError;
 use domain_wire::parse::Parse;
 use octseq::Parser;

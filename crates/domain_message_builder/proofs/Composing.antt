@@ -2,9 +2,9 @@
 use Rattle.std.proofs.Common.{◌≡◌, ℕ, ◌+◌, Bool, List, [], ◌∷◌, ◌++◌, length, take, drop, refl, sym, ap, subst, arith, ◌∙◌, append_assoc, append-nil, length-append}
 use Rattle.std.proofs.Math.Seq.{take-append_seam, drop-append-add}
 use Rattle.std.specs.Int.{w16, to_be_bytes}
-use Rattle.domain_record.specs.Composing.{before_length}
-use Rattle.domain_record.specs.Entries.{QuestionFields}
-use Rattle.domain_record.specs.ReadsBack.{question_reads_back, record_reads_back}
+use Rattle.domain_message.specs.Composing.{before_length}
+use Rattle.domain_message.specs.Entries.{QuestionFields}
+use Rattle.domain_message.specs.ReadsBack.{question_reads_back, record_reads_back}
 use Rattle.domain_message.specs.Sections.{Run}
 use Rattle.domain_message_builder.specs.Contents.{blank_header, PushedRecord, Composed, QuestionMay, RecordMay}
 use Rattle.domain_message_builder.specs.Reading.{QuestionReadAt, RecordReadAt}

@@ -1,22 +1,24 @@
 -- OPT records are pushed as records.
-use Rattle.std.proofs.Common.{◌≡◌, ℕ, ◌+◌, ◌≤◌, Bool, List, [], ◌∷◌, ◌++◌, length, slice_index, refl, sym, ap, subst, arith, ◌∙◌}
+use Rattle.std.proofs.Common.{◌≡◌, ℕ, ◌+◌, ◌≤◌, ◌<◌, Bool, List, [], ◌∷◌, ◌++◌, length, length-append, slice_index, refl, sym, ap, subst, arith, inl, inr, ◌∙◌}
 use Rattle.std.specs.Int.{w16, to_be_bytes}
-use Rattle.std.specs.Prelude.{Result, Ok, Err, OnOk, IfErr}
+use Rattle.std.specs.Prelude.{Result, Ok, Err, OnOk, OnErr, IfErr}
 use Rattle.domain_label.specs.Wire.{Root}
 use Rattle.domain_reading.proofs.Encodings.{run_inside}
 use Rattle.domain_reading.specs.Grammar.{LabelRun, Stop, StopAt}
 use Rattle.domain_reading.specs.Grammar.Stop.{root, pointer}
 use Rattle.domain_rdata.specs.RecordData.{NameOctets}
-use Rattle.domain_record.specs.Composing.{before_length}
-use Rattle.domain_record.specs.LeftToTarget.{NameThenData}
+use Rattle.domain_message.specs.Composing.{before_length, RecordExceeds}
+use Rattle.domain_message.specs.Composing.RecordExceeds.{no_name, no_numbers, no_data}
+use Rattle.domain_message.specs.LeftToTarget.{NameThenData}
 use Rattle.domain_message.specs.declared.section.Section.TheVariants.{Additional}
 use Rattle.domain_message_builder.specs.Contents.{RecordHead}
-use Rattle.domain_message_builder.specs.Cuts.{OnlyOptions, PushesOpt, WritesOpt, OptRefused}
+use Rattle.domain_message_builder.specs.Cuts.{OnlyOptions, PushesOpt, WritesOpt, OptRefused, CannotAddOpt}
 use Rattle.domain_message_builder.specs.Opt.{Opt, opt_head, opt_record_octets, packed_opt_ttl}
 use Rattle.domain_message_builder.specs.Pushes.{with_reserved, PushesRecord}
 use Rattle.domain_message_builder.specs.Refusals.{RecordRefused}
 use Rattle.domain_message_builder.specs.State.{State}
 use Rattle.domain_message_builder.specs.declared.error.PushError.{PushError}
+use Rattle.domain_message_builder.specs.declared.error.PushError.TheVariants.{Append, Long, Count, Limit, Order}
 
 -- the OPT record was pushed as a record
 pub opt_after : (c : Bool) (o : Opt) (old new : State) (head : RecordHead) (options : List ℕ) → head ≡ opt_head o → options ≡ o.options → PushesRecord c Additional head (λ before data_octets. data_octets ≡ options) (with_reserved 0 old) new → PushesOpt c o old new
@@ -38,6 +40,28 @@ pub opt_not_pushed : {A E : Type 0} (r : Result A (PushError E)) (c : Bool) (o :
     → IfErr r (λ e. RecordRefused c Additional head (λ before data_octets. data_octets ≡ options) (with_reserved 0 s) capacity e) → IfErr r (λ e. OptRefused c o s capacity e)
 opt_not_pushed (Ok x) c o s capacity head options heads same why = why
 opt_not_pushed (Err e) c o s capacity head options heads same why = opt_refused c o s capacity e head options heads same why
+
+-- ---- and there is no room for it, then
+
+no_room_of : (c : Bool) (o : Opt) (t : List ℕ) (size ttl capacity : ℕ) → RecordExceeds Root 41 size ttl (OnlyOptions o) c t capacity → capacity < length t + 11 + length o.options
+no_room_of c o t size ttl capacity (no_name e) = omega (arith, e.full, e.allowed.read.short)
+no_room_of c o t size ttl capacity (no_numbers named name full) = omega (arith, full, name.read.short)
+no_room_of c o t size ttl capacity (no_data named room name grown e) =
+    let head = before_length 41 size ttl in
+    omega (arith, grown, e.full, name.read.short, length-append (t ++ named) head, length-append t named, ap length (e.allowed []))
+
+pub opt_lacks_room : {A E : Type 0} (r : Result A (PushError E)) (c : Bool) (o : Opt) (s : State) (capacity : ℕ) → length o.options ≤ 65535 → IfErr r (λ e. OptRefused c o s capacity e) → OnErr r (CannotAddOpt o capacity s)
+opt_lacks_room (Ok x) c o s capacity few why = why
+opt_lacks_room (Err (Append e)) c o s capacity few why =
+    inl (inl (no_room_of c o s.octets o.udp_payload_size (packed_opt_ttl o.rcode_ext o.version o.dnssec_ok) capacity why))
+opt_lacks_room (Err (Long e)) c o s capacity few why = absurd (omega (arith, few, why.2.many, ap length why.2.allowed))
+opt_lacks_room (Err Count) c o s capacity few why = inr why
+opt_lacks_room (Err Limit) c o s capacity few why =
+    let it = why.allowed in
+    let head = before_length 41 o.udp_payload_size (packed_opt_ttl o.rcode_ext o.version o.dnssec_ok) in
+    let len = to_be_bytes w16 (length it.rdata) in
+    inl (inr (omega (arith, why.full, it.name_allowed.read.short, ap length it.all, length-append it.named (head ++ (len ++ it.rdata)), length-append head (len ++ it.rdata), length-append len it.rdata, ap length it.data_allowed)))
+opt_lacks_room (Err Order) c o s capacity few why = absurd (omega (arith, why))
 
 -- ---- what the record is in octets
 

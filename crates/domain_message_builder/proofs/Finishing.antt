@@ -8,7 +8,7 @@ use Rattle.domain_header.specs.declared.counts.HeaderCounts.{HeaderCounts}
 use Rattle.domain_header.specs.declared.flags.Header.{Header}
 use Rattle.domain_header.specs.declared.header.HeaderSection.{HeaderSection}
 use Rattle.domain_message.specs.Sections.{Run}
-use Rattle.domain_record.specs.Entries.{QuestionFields}
+use Rattle.domain_message.specs.Entries.{QuestionFields}
 use Rattle.domain_message_builder.specs.Contents.{blank_header, PushedRecord, Content, QuestionMay, RecordMay, Holds}
 use Rattle.domain_message_builder.specs.Finished.{finished_octets}
 use Rattle.domain_message_builder.specs.State.{State}

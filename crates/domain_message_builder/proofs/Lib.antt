@@ -1,4 +1,3 @@
-pub mod Replying
 pub mod Blank
 pub mod Composing
 pub mod Cutting
@@ -8,4 +7,5 @@ pub mod Ordering
 pub mod Pointing
 pub mod Pushing
 pub mod ReadingBack
+pub mod Replying
 pub mod Rewinding

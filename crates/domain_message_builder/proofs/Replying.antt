@@ -3,11 +3,11 @@ use Rattle.std.proofs.Common.{◌≡◌, ℕ, ◌-◌, ◌<◌, inl, inr, Bool, 
 use Rattle.std.specs.Prelude.{true, false, IsTrue, ◌↔◌}
 use Rattle.std.proofs.lemmas.Bool.{false≢true}
 use Rattle.domain_header.specs.Bits.{bit, bits, bit_of, SetsBits}
-use Rattle.domain_record.specs.Composing.{type_and_class}
-use Rattle.domain_record.specs.Entries.{QuestionFields}
-use Rattle.domain_record.specs.LeftToTarget.{NameThen}
-use Rattle.domain_record.specs.MayCompose.{IsNameThen}
-use Rattle.domain_record.specs.Readings.{question_reading}
+use Rattle.domain_message.specs.Composing.{type_and_class}
+use Rattle.domain_message.specs.Entries.{QuestionFields}
+use Rattle.domain_message.specs.LeftToTarget.{NameThen}
+use Rattle.domain_message.specs.MayCompose.{IsNameThen}
+use Rattle.domain_message.specs.Readings.{question_reading}
 use Rattle.domain_rdata.specs.ReadBack.{Exceeds}
 use Rattle.domain_header.specs.Numbers.{number16}
 use Rattle.domain_header.specs.declared.flags.Header.{Header}

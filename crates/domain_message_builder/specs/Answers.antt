@@ -6,10 +6,10 @@ use Rattle.domain_header.specs.Numbers.{number16}
 use Rattle.domain_header.specs.Values.{rcode_number}
 use Rattle.domain_header.specs.declared.code.Rcode.{Rcode}
 use Rattle.domain_header.specs.declared.flags.Header.{Header}
-use Rattle.domain_record.specs.Composing.{type_and_class}
-use Rattle.domain_record.specs.Entries.{QuestionFields, QuestionAt, NoQuestion}
-use Rattle.domain_record.specs.LeftToTarget.{NameThen}
-use Rattle.domain_record.specs.MayCompose.{IsNameThen}
+use Rattle.domain_message.specs.Composing.{type_and_class}
+use Rattle.domain_message.specs.Entries.{QuestionFields, QuestionAt, NoQuestion}
+use Rattle.domain_message.specs.LeftToTarget.{NameThen}
+use Rattle.domain_message.specs.MayCompose.{IsNameThen}
 use Rattle.domain_wire.specs.declared.error.ParseError.{ParseError}
 use Rattle.domain_rdata.specs.ReadBack.{Exceeds}
 use Rattle.domain_message_builder.specs.Contents.{AsksIn}

@@ -3,9 +3,9 @@
 use Rattle.std.specs.Prelude.{ℕ, ◌-◌, List}
 use Rattle.domain_message.specs.declared.section.Section.{Section}
 use Rattle.domain_rdata.specs.Members.{DataMembers}
-use Rattle.domain_record.specs.LeftToTarget.{WritesQuestion, WritesRecord}
-use Rattle.domain_record.specs.declared.question.Question.{Question}
-use Rattle.domain_record.specs.declared.resource_record.Record.{Record}
+use Rattle.domain_message.specs.LeftToTarget.{WritesQuestion, WritesRecord}
+use Rattle.domain_message.specs.declared.question.Question.{Question}
+use Rattle.domain_message.specs.declared.resource_record.Record.{Record}
 use Rattle.domain_rdata.specs.RecordData.{ComposeRefused}
 use Rattle.domain_message_builder.specs.Builders.{state, target_room}
 use Rattle.domain_message_builder.specs.Members.{head_of, data_octets_of}

@@ -1,8 +1,8 @@
 -- What was pushed, and the octets that it was composed into.
 use Rattle.std.specs.Prelude.{◌≡◌, ℕ, ◌^◌, ◌<◌, Bool, List, [], ◌∷◌, ◌++◌, length}
 use Rattle.domain_header.specs.Headers.{question_count, answer_count, authority_count, additional_count}
-use Rattle.domain_record.specs.Composing.{QuestionOctets, RecordOctets}
-use Rattle.domain_record.specs.Entries.{QuestionFields}
+use Rattle.domain_message.specs.Composing.{QuestionOctets, RecordOctets}
+use Rattle.domain_message.specs.Entries.{QuestionFields}
 use Rattle.domain_header.specs.declared.counts.HeaderCounts.{HeaderCounts}
 use Rattle.domain_message_builder.specs.State.{State}
 use Rattle.domain_message_builder.specs.declared.section_starts.SectionStarts.{SectionStarts}

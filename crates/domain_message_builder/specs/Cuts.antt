@@ -4,8 +4,8 @@ use Rattle.domain_header.specs.Headers.{SetsHigh, additional_count}
 use Rattle.domain_header.specs.declared.flags.Header.{Header}
 use Rattle.domain_label.specs.Wire.{Root}
 use Rattle.domain_message.specs.declared.section.Section.TheVariants.{Answer, Additional}
-use Rattle.domain_record.specs.Composing.{before_length}
-use Rattle.domain_record.specs.LeftToTarget.{NameThenData}
+use Rattle.domain_message.specs.Composing.{before_length}
+use Rattle.domain_message.specs.LeftToTarget.{NameThenData}
 use Rattle.domain_message_builder.specs.Contents.{PushedRecord, Content, Holds}
 use Rattle.domain_message_builder.specs.Errors.{is_for_room}
 use Rattle.domain_message_builder.specs.Opt.{Opt, opt_head, packed_opt_ttl}

@@ -3,7 +3,7 @@ use Rattle.std.specs.Prelude.{◌≡◌, ℕ, Bool, List, [], ◌∷◌, ◌++�
 use Rattle.domain_label.specs.Lowercase.{lowercase_labels}
 use Rattle.domain_header.specs.Numbers.{number16}
 use Rattle.domain_header.specs.declared.flags.Header.{Header}
-use Rattle.domain_record.specs.Entries.{QuestionFields, QuestionAt, RecordFields, RecordAt}
+use Rattle.domain_message.specs.Entries.{QuestionFields, QuestionAt, RecordFields, RecordAt}
 use Rattle.domain_message.specs.Runs.{Given}
 use Rattle.domain_message.specs.Sections.{QuestionsTo, AnswersTo, AuthorityTo, RecordsTo}
 use Rattle.domain_message.specs.declared.section.Section.TheVariants.{Additional}

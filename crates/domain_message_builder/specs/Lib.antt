@@ -15,7 +15,11 @@ pub mod Pointers
 pub mod Pushes
 pub mod Reading
 pub mod Refusals
+pub mod SectionErrors
+pub mod SectionQuestions
+pub mod SectionRecords
 pub mod SectionStarts
+pub mod SectionViews
 pub mod State
 pub mod Streams
 pub mod Targets

@@ -1,8 +1,8 @@
 -- What contracts have as the members of a trait and of those above it, as one record, and what a record says by them.
 use Rattle.std.specs.Prelude.{ℕ, Bool, List, Option}
 use Rattle.domain_rdata.specs.Members.{DataMembers, Writing}
-use Rattle.domain_record.specs.RecordParts.{data_of}
-use Rattle.domain_record.specs.declared.resource_record.Record.{Record}
+use Rattle.domain_message.specs.RecordParts.{data_of}
+use Rattle.domain_message.specs.declared.resource_record.Record.{Record}
 use Rattle.domain_message_builder.specs.Contents.{RecordHead}
 use Rattle.domain_message_builder.specs.Pushes.{headed}
 

@@ -3,7 +3,7 @@ use Rattle.std.specs.Prelude.{◌≡◌, ℕ, ◌+◌, ◌*◌, ◌<◌, ◌≤�
 use Rattle.std.specs.Int.{w16, to_be_bytes}
 use Rattle.domain_header.specs.Bits.{bit_of}
 use Rattle.domain_label.specs.Wire.{Root}
-use Rattle.domain_record.specs.Composing.{before_length}
+use Rattle.domain_message.specs.Composing.{before_length}
 use Rattle.domain_rdata.specs.declared.record_data.ComposeRdataError.{ComposeRdataError}
 use Rattle.domain_rdata.specs.declared.record_data.ComposeRdataError.TheVariants.{Append, Long}
 use Rattle.domain_message_builder.specs.Contents.{RecordHead}

@@ -4,11 +4,11 @@ use Rattle.domain_header.specs.Headers.{header_id, header_high, header_low, ques
 use Rattle.domain_header.specs.Values.{class_number, ttl_seconds}
 use Rattle.domain_header.specs.declared.counts.HeaderCounts.{HeaderCounts}
 use Rattle.domain_header.specs.declared.flags.Header.{Header}
-use Rattle.domain_record.specs.Entries.{QuestionFields}
-use Rattle.domain_record.specs.RecordParts.{owner_of, class_of, ttl_of, data_of}
-use Rattle.domain_record.specs.Views.{question_name, question_type, question_class}
-use Rattle.domain_record.specs.declared.question.Question.{Question}
-use Rattle.domain_record.specs.declared.resource_record.Record.{Record}
+use Rattle.domain_message.specs.Entries.{QuestionFields}
+use Rattle.domain_message.specs.RecordParts.{owner_of, class_of, ttl_of, data_of}
+use Rattle.domain_message.specs.EntryViews.{question_name, question_type, question_class}
+use Rattle.domain_message.specs.declared.question.Question.{Question}
+use Rattle.domain_message.specs.declared.resource_record.Record.{Record}
 use Rattle.domain_message.specs.declared.section.Section.{Section}
 use Rattle.domain_message.specs.declared.section.Section.TheVariants.{Answer, Authority, Additional}
 use Rattle.domain_rdata.specs.ReadBack.{Appended}

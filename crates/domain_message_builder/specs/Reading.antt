@@ -4,7 +4,7 @@ use Rattle.domain_label.specs.Lowercase.{lowercase_labels}
 use Rattle.domain_header.specs.Headers.{header_id, header_high, header_low}
 use Rattle.domain_header.specs.Numbers.{number16}
 use Rattle.domain_header.specs.declared.flags.Header.{Header}
-use Rattle.domain_record.specs.Entries.{QuestionFields, QuestionAt, RecordFields, RecordAt}
+use Rattle.domain_message.specs.Entries.{QuestionFields, QuestionAt, RecordFields, RecordAt}
 use Rattle.domain_message.specs.Sections.{Run}
 use Rattle.domain_message_builder.specs.Contents.{Content, PushedRecord}
 

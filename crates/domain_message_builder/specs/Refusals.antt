@@ -1,8 +1,8 @@
 -- Why a call was refused.
 use Rattle.std.specs.Prelude.{◌≡◌, ℕ, ◌-◌, ◌<◌, Bool, List, ◌++◌, length}
 use Rattle.domain_header.specs.Headers.{question_count}
-use Rattle.domain_record.specs.Composing.{RecordExceeds, before_length}
-use Rattle.domain_record.specs.Entries.{QuestionFields}
+use Rattle.domain_message.specs.Composing.{RecordExceeds, before_length}
+use Rattle.domain_message.specs.Entries.{QuestionFields}
 use Rattle.domain_message.specs.declared.section.Section.{Section}
 use Rattle.domain_rdata.specs.ReadBack.{Exceeds}
 use Rattle.domain_rdata.specs.RecordData.{NameOctets, IsTooLong}

@@ -4,10 +4,10 @@ use Rattle.std.specs.Prelude.{◌≡◌, ℕ, List, []}
 use Rattle.domain_rdata.specs.Members.{ComposerMembers, DataMembers}
 use Rattle.domain_rdata.specs.ReadBack.{Appended}
 use Rattle.domain_rdata.specs.RecordData.{ComposeRefused}
-use Rattle.domain_record.specs.LeftToTarget.{WritesQuestion, WritesRecord}
-pub use Rattle.domain_record.specs.Targets.{TakesQuestion, Takes}
-use Rattle.domain_record.specs.declared.question.Question.{Question}
-use Rattle.domain_record.specs.declared.resource_record.Record.{Record}
+use Rattle.domain_message.specs.LeftToTarget.{WritesQuestion, WritesRecord}
+pub use Rattle.domain_message.specs.Targets.{TakesQuestion, Takes}
+use Rattle.domain_message.specs.declared.question.Question.{Question}
+use Rattle.domain_message.specs.declared.resource_record.Record.{Record}
 use Rattle.domain_message_builder.specs.Contents.{blank_header, AsksIn, RecordsIn}
 use Rattle.domain_message_builder.specs.Members.{head_of, data_octets_of}
 use Rattle.domain_message_builder.specs.Pushes.{asked}

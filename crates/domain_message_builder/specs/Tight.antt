@@ -1,11 +1,11 @@
 -- That an entry is refused only where it doesn't fit as the target writes it, which may write names shorter (RFC 1035,
 -- 4.1.4).
 use Rattle.std.specs.Prelude.{ℕ, ◌<◌, ⊤, List, length}
-use Rattle.domain_record.specs.MayCompose.{IsNameThen, RefusesRecord, after_qname, after_owner}
-use Rattle.domain_record.specs.RecordParts.{owner_of}
-use Rattle.domain_record.specs.Views.{question_name}
-use Rattle.domain_record.specs.declared.question.Question.{Question}
-use Rattle.domain_record.specs.declared.resource_record.Record.{Record}
+use Rattle.domain_message.specs.MayCompose.{IsNameThen, RefusesRecord, after_qname, after_owner}
+use Rattle.domain_message.specs.RecordParts.{owner_of}
+use Rattle.domain_message.specs.EntryViews.{question_name}
+use Rattle.domain_message.specs.declared.question.Question.{Question}
+use Rattle.domain_message.specs.declared.resource_record.Record.{Record}
 use Rattle.domain_rdata.specs.ReadBack.{Exceeds}
 use Rattle.domain_rdata.specs.declared.record_data.ComposeRdataError.{ComposeRdataError}
 use Rattle.domain_rdata.specs.declared.record_data.ComposeRdataError.TheVariants.{Append as Full, Long as TooLong}

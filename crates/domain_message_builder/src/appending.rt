@@ -6,8 +6,8 @@ ghost use Rattle.domain_message_builder.specs.Targets.{AppendsRecord, Takes, Lac
 
 use crate::error::PushError;
 use domain_list::AbsoluteLabels;
+use domain_message::{Question, Record};
 use domain_rdata::{ComposeRdataError, ComposeRecordData, Composer};
-use domain_record::{Question, Record};
 use octseq::{Octets, Truncate};
 
 /// Appends a question, up to this many octets in all, or nothing.

@@ -16,9 +16,8 @@ use crate::error::{PushError, StartError};
 use crate::section_starts::SectionStarts;
 use domain_header::{Header, HeaderCounts, HeaderSection};
 use domain_list::AbsoluteLabels;
-use domain_message::Section;
+use domain_message::{Question, Record, Section};
 use domain_rdata::{ComposeRecordData, Composer, RecordData};
-use domain_record::{Question, Record};
 use octseq::{EmptyBuilder, Octets, OctetsBuilder, OctetsMut, ShortBuf, Truncate};
 use std::alloc::Global;
 

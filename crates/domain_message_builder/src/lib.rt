@@ -1,4 +1,4 @@
-//! A writer of messages (RFC 1035, 4.1).
+//! A writer of messages, and the sections of a message in their order, by types (RFC 1035, 4.1).
 #![tactic(auto)]
 
 mod answering;
@@ -8,7 +8,13 @@ mod counting;
 pub mod error;
 pub mod laws;
 pub mod opt;
+pub mod question_builder;
+pub mod record_builder;
+pub mod section;
+mod section_back;
+pub mod section_error;
 pub mod section_starts;
+mod section_steps;
 mod stream;
 mod truncating;
 
@@ -16,3 +22,7 @@ pub use builder::MessageBuilder;
 pub use error::{PushError, StartError};
 pub use laws::{builder_laws, pushed_data_reads_back};
 pub use opt::OptBuilder;
+pub use question_builder::QuestionBuilder;
+pub use record_builder::{AdditionalBuilder, AnswerBuilder, AuthorityBuilder, RecordBuilder};
+pub use section::{AdditionalSection, AnswerSection, AuthoritySection, RecordSection};
+pub use section_error::SectionError;

@@ -3,9 +3,9 @@ ghost use Rattle.std.specs.Prelude.{◌≡◌, ◌≤◌, ◌<◌, ◌+◌, ◌�
 ghost use Rattle.domain_message_builder.specs.Opt.{packed_opt_ttl, AppendsOption, OptionsAreFull};
 
 use domain_header::{Class, Ttl};
+use domain_message::Record;
 use domain_name::Name;
 use domain_rdata::{ComposeRdataError, LongRecordData, Rtype, UnknownRecordData};
-use domain_record::Record;
 use octseq::{Octets, OctetsBuilder, Truncate};
 
 /// The TTL that tells these (6.1.3).
@@ -55,7 +55,7 @@ impl<Octs: Octets> OptBuilder<Octs> {
     ghost use Rattle.domain_message_builder.specs.Opt.{with_size, with_rcode_ext, with_version, with_dnssec_ok, opt_head};
     ghost use Rattle.domain_message_builder.specs.OptViews.{opt_of};
     ghost use Rattle.domain_message_builder.specs.Pushes.{headed};
-    ghost use Rattle.domain_record.specs.RecordParts.{data_of};
+    ghost use Rattle.domain_message.specs.RecordParts.{data_of};
     ghost use Rattle.domain_name.specs.Names.{name_labels};
     ghost use Rattle.domain_rdata.specs.Unknown.{data_octets, data_type};
 

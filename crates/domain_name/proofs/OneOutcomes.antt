@@ -13,12 +13,13 @@ use Rattle.domain_builder.specs.declared.name_symbol.TextFault.{TextFault}
 use Rattle.domain_builder.specs.declared.name_symbol.TextFault.TheVariants.{BinaryLabel}
 use Rattle.domain_builder.specs.declared.name_symbol.NameSymbol.{NameSymbol}
 use Rattle.domain_builder.specs.declared.name_symbol.NameSymbol.TheVariants.{Dot, Octet, Bracket, Nothing}
-use Rattle.domain_builder.proofs.Building.{room_grows}
+use Rattle.domain_label.specs.Wire.{wire, labels_in}
+use Rattle.domain_builder.proofs.Building.{room_grows, nothing_pushed, labelled_nothing, size_named}
 use Rattle.domain_builder.proofs.Sizes.{taken}
 use Rattle.domain_builder.proofs.Grammar.{makes_one}
 use Rattle.domain_builder.proofs.OneOutcome.{run, made_or_stopped, stops_at_one}
 use Rattle.domain_builder.proofs.Outcomes.{items_of, items_read, same_items}
-use Rattle.domain_name.specs.Names.{relative_labels}
+use Rattle.domain_name.specs.Names.{relative_octets, relative_labels}
 use Rattle.domain_name.specs.Calls.{Fits, ExceedsLimits, IsTooMuch, Accepted, PassedOver, AppliesAll, OneOutcome}
 use Rattle.domain_name.specs.declared.calls.BuilderCall.{BuilderCall}
 use Rattle.domain_name.specs.declared.calls.BuilderCall.TheVariants.{Push, PushSymbol, AppendSlice, EndLabel, AppendLabel, AppendDecU8Label, AppendHexDigitLabel, AppendName, AppendChars}
@@ -109,6 +110,52 @@ naming room b made r s = at (within (size made) 254)
     at (inl w) = takes _ _ made (refl, w) w (λ m h. h.0) (λ m h. never w h.1)
     at (inr w) = passes _ _ b (refl, inl w) s (λ m h. h.0) (λ m h. never (subst (λ (x : BuilderState). size x ≤ 254) h.0 h.1) (inl w))
 
+-- the same step in other words
+recast : (A P A' P' : BuilderState → Type 0) → OneStep A P → ((m : BuilderState) → A m → A' m) → ((m : BuilderState) → A' m → A m) → ((m : BuilderState) → P m → P' m) → ((m : BuilderState) → P' m → P m) → OneStep A' P'
+unfolding At
+recast A P A' P' step to back over under = record { new = step.new; answer = step.answer; holds = there step.answer step.holds; short = step.short; only = λ m r h. step.only m r (here m r h) }
+  where
+    there : (answer : Bool) → At A P step.new answer → At A' P' step.new answer
+    there true h = to step.new h
+    there false h = over step.new h
+
+    here : (m : BuilderState) (r : Bool) → At A' P' m r → At A P m r
+    here m true h = back m h
+    here m false h = under m h
+
+-- octets for the open label: none are taken
+slicing : (room : ℕ) (b : BuilderState) (s : List ℕ) → 254 ≤ room → size b ≤ 254 → OneStep (λ m. (m ≡ pushed b s) × (0 < length s → Fits (length m.open_label) (size m))) (λ m. (0 < length s) × (m ≡ b) × ExceedsLimits room (length (pushed b s).open_label) (size (pushed b s)))
+slicing room b s r small = at (within (length s) 0)
+  where
+    at : (length s ≤ 0) ⊎ (0 < length s) → OneStep (λ m. (m ≡ pushed b s) × (0 < length s → Fits (length m.open_label) (size m))) (λ m. (0 < length s) × (m ≡ b) × ExceedsLimits room (length (pushed b s).open_label) (size (pushed b s)))
+    at (inl none) = takes _ _ (pushed b s) (refl, λ some. absurd (omega (arith, none, some))) (subst (λ (m : BuilderState). size m ≤ 254) (sym (nothing_pushed b s none)) small) (λ m h. h.0) (λ m h. omega (arith, none, h.0))
+    at (inr some) = recast _ _ _ _ (labelling room b (pushed b s) (λ m. length m.open_label) r small) (λ m h. (h.0, λ _. h.1)) (λ m h. (h.0, h.1 some)) (λ m h. (some, h.0, h.1)) (λ m h. (h.1, h.2))
+
+-- a label: none is taken, too
+adding : (room : ℕ) (b : BuilderState) (s : List ℕ) → 254 ≤ room → size b ≤ 254 → OneStep (λ m. (m ≡ labelled b s) × Fits (length s) (size m)) (λ m. (0 < length s) × (m ≡ b) × ExceedsLimits room (length s) (size (labelled b s)))
+adding room b s r small = at (within (length s) 0)
+  where
+    at : (length s ≤ 0) ⊎ (0 < length s) → OneStep (λ m. (m ≡ labelled b s) × Fits (length s) (size m)) (λ m. (0 < length s) × (m ≡ b) × ExceedsLimits room (length s) (size (labelled b s)))
+    at (inl none) =
+        let whole : size (labelled b s) ≤ 254 = subst (λ (m : BuilderState). size m ≤ 254) (sym (labelled_nothing b s none)) small in
+        takes _ _ (labelled b s) (refl, (omega (arith, none), whole)) whole (λ m h. h.0) (λ m h. omega (arith, none, h.0))
+    at (inr some) = recast _ _ _ _ (labelling room b (labelled b s) (λ m. length s) r small) (λ m h. h) (λ m h. h) (λ m h. (some, h.0, h.1)) (λ m h. (h.1, h.2))
+
+-- no octets have no labels
+no_labels : (o : List ℕ) → length o ≤ 0 → labels_in o ≡ []
+no_labels [] h = refl
+no_labels (c ∷ o) h = absurd (omega arith)
+
+-- a name, with labels or without
+joining : (room : ℕ) (b : BuilderState) (o : List ℕ) → 254 ≤ room → size b ≤ 254 → OneStep (λ m. (m ≡ named b (labels_in o)) × (size m ≤ 254)) (λ m. (0 < length o) × (m ≡ b) × IsTooMuch room (size (named b (labels_in o))))
+joining room b o r small = at (within (length o) 0)
+  where
+    at : (length o ≤ 0) ⊎ (0 < length o) → OneStep (λ m. (m ≡ named b (labels_in o)) × (size m ≤ 254)) (λ m. (0 < length o) × (m ≡ b) × IsTooMuch room (size (named b (labels_in o))))
+    at (inl none) =
+        let whole : size (named b (labels_in o)) ≤ 254 = omega (arith, size_named b (labels_in o), ap (λ (ls : List (List ℕ)). length (wire ls)) (no_labels o none), small) in
+        takes _ _ (named b (labels_in o)) (refl, whole) whole (λ m h. h.0) (λ m h. omega (arith, none, h.0))
+    at (inr some) = recast _ _ _ _ (naming room b (named b (labels_in o)) r small) (λ m h. h) (λ m h. h) (λ m h. (some, h.0, h.1)) (λ m h. (h.1, h.2))
+
 symbol : (room : ℕ) (b : BuilderState) (p : NameSymbol) → 254 ≤ room → size b ≤ 254 → OneStep (λ m. (symbol_fault b p ≡ None) × (m ≡ after b p)) (λ m. (m ≡ b) × (((f : TextFault) × (symbol_fault b p ≡ Some f)) ⊎ ((symbol_fault b p ≡ None) × (p ≢ Dot) × (room < size (after b p)))))
 symbol room b p r s = at (symbol_fault b p) refl
   where
@@ -156,12 +203,12 @@ one_call : (room : ℕ) (b : BuilderState) (call : BuilderCall) → 254 ≤ room
 unfolding TextMakes TextStops
 one_call room b (Push c) r s = labelling room b (pushed b (c ∷ [])) (λ m. length m.open_label) r s
 one_call room b (PushSymbol x) r s = symbol room b (symbol_in_name x) r s
-one_call room b (AppendSlice x) r s = labelling room b (pushed b x.now) (λ m. length m.open_label) r s
+one_call room b (AppendSlice x) r s = slicing room b x.now r s
 one_call room b EndLabel r s = takes (Accepted b EndLabel) (PassedOver room b EndLabel) (ended b) refl s (λ m h. h) (λ m h. h)
-one_call room b (AppendLabel x) r s = labelling room b (labelled b x.now) (λ m. length x.now) r s
+one_call room b (AppendLabel x) r s = adding room b x.now r s
 one_call room b (AppendDecU8Label n) r s = naming room b (labelled b (decimal n)) r s
 one_call room b (AppendHexDigitLabel n) r s = naming room b (labelled b (digit_glyph true (n % 16) ∷ [])) r s
-one_call room b (AppendName n) r s = naming room b (named b (relative_labels n)) r s
+one_call room b (AppendName n) r s = joining room b (relative_octets n) r s
 one_call room b (AppendChars x) r s = texts room b (chars x.now) r s
 
 -- ---- calls in turn
@@ -227,10 +274,10 @@ passed_less less here b (Push c) new h p = (p.0, exceeds_less less here (length 
 passed_less less here b (PushSymbol s) new h p = (p.0, symbol_less less here (size (after b (symbol_in_name s))) ((f : TextFault) × (symbol_fault b (symbol_in_name s) ≡ Some f)) (symbol_fault b (symbol_in_name s) ≡ None) (symbol_in_name s ≢ Dot) h p.1)
 passed_less less here b (AppendDecU8Label n) new h p = (p.0, too_much_less less here (size (labelled b (decimal n))) h p.1)
 passed_less less here b (AppendHexDigitLabel n) new h p = (p.0, too_much_less less here (size (labelled b (digit_glyph true (n % 16) ∷ []))) h p.1)
-passed_less less here b (AppendName n) new h p = (p.0, too_much_less less here (size (named b (relative_labels n))) h p.1)
-passed_less less here b (AppendSlice s) new h p = (p.0, exceeds_less less here (length (pushed b s.now).open_label) (size (pushed b s.now)) h p.1)
+passed_less less here b (AppendName n) new h p = (p.0, p.1, too_much_less less here (size (named b (relative_labels n))) h p.2)
+passed_less less here b (AppendSlice s) new h p = (p.0, p.1, exceeds_less less here (length (pushed b s.now).open_label) (size (pushed b s.now)) h p.2)
 passed_less less here b EndLabel new h p = p
-passed_less less here b (AppendLabel s) new h p = (p.0, exceeds_less less here (length s.now) (size (labelled b s.now)) h p.1)
+passed_less less here b (AppendLabel s) new h p = (p.0, p.1, exceeds_less less here (length s.now) (size (labelled b s.now)) h p.2)
 passed_less less here b (AppendChars s) new h p = λ items r. text_less less here b (name_symbols items) new h (p items r)
 
 -- the room that a call leaves is no less

@@ -11,7 +11,7 @@ use Rattle.domain_builder.specs.declared.name_symbol.NameSymbol.TheVariants.{Dot
 use Rattle.domain_name.specs.declared.calls.BuilderCall.{BuilderCall}
 use Rattle.domain_name.specs.declared.calls.BuilderCall.TheVariants.{Push, PushSymbol, AppendSlice, EndLabel, AppendLabel, AppendDecU8Label, AppendHexDigitLabel, AppendName, AppendChars}
 use Rattle.domain_builder.specs.declared.name_symbol.TextFault.{TextFault}
-use Rattle.domain_name.specs.Names.{relative_labels}
+use Rattle.domain_name.specs.Names.{relative_octets, relative_labels}
 
 -- A label of `label` octets and a whole of `whole` octets are short enough.
 abbrev pub Fits : ℕ → ℕ → Type 0
@@ -25,7 +25,7 @@ ExceedsLimits room label whole = (63 < label) ⊎ ((254 < whole) ⊎ (room < who
 abbrev pub Accepted : BuilderState → BuilderCall → BuilderState → Type 0
 Accepted b (Push c) new = (new ≡ pushed b (c ∷ [])) × Fits (length new.open_label) (size new)
 Accepted b (PushSymbol s) new = (symbol_fault b (symbol_in_name s) ≡ None) × (new ≡ after b (symbol_in_name s))
-Accepted b (AppendSlice s) new = (new ≡ pushed b s.now) × Fits (length new.open_label) (size new)
+Accepted b (AppendSlice s) new = (new ≡ pushed b s.now) × (0 < length s.now → Fits (length new.open_label) (size new))
 Accepted b EndLabel new = new ≡ ended b
 Accepted b (AppendLabel s) new = (new ≡ labelled b s.now) × Fits (length s.now) (size new)
 Accepted b (AppendDecU8Label n) new = (new ≡ labelled b (decimal n)) × (size new ≤ 254)
@@ -37,16 +37,17 @@ Accepted b (AppendChars s) new = (items : Items) → ReadsSymbols (chars s.now) 
 abbrev pub IsTooMuch : ℕ → ℕ → Type 0
 IsTooMuch room whole = (254 < whole) ⊎ (room < whole)
 
--- Why a call fails. It changes nothing, but that symbols of a text that were added are kept.
+-- Why a call fails. One that adds no octets never does. It changes nothing, but that symbols of a text that were added
+-- are kept.
 abbrev pub PassedOver : ℕ → BuilderState → BuilderCall → BuilderState → Type 0
 PassedOver room b (Push c) new = (new ≡ b) × ExceedsLimits room (length (pushed b (c ∷ [])).open_label) (size (pushed b (c ∷ [])))
 PassedOver room b (PushSymbol s) new = (new ≡ b) × (((f : TextFault) × (symbol_fault b (symbol_in_name s) ≡ Some f)) ⊎ ((symbol_fault b (symbol_in_name s) ≡ None) × (symbol_in_name s ≢ Dot) × (room < size (after b (symbol_in_name s)))))
-PassedOver room b (AppendSlice s) new = (new ≡ b) × ExceedsLimits room (length (pushed b s.now).open_label) (size (pushed b s.now))
+PassedOver room b (AppendSlice s) new = (0 < length s.now) × (new ≡ b) × ExceedsLimits room (length (pushed b s.now).open_label) (size (pushed b s.now))
 PassedOver room b EndLabel new = ⊥
-PassedOver room b (AppendLabel s) new = (new ≡ b) × ExceedsLimits room (length s.now) (size (labelled b s.now))
+PassedOver room b (AppendLabel s) new = (0 < length s.now) × (new ≡ b) × ExceedsLimits room (length s.now) (size (labelled b s.now))
 PassedOver room b (AppendDecU8Label n) new = (new ≡ b) × IsTooMuch room (size (labelled b (decimal n)))
 PassedOver room b (AppendHexDigitLabel n) new = (new ≡ b) × IsTooMuch room (size (labelled b (hex_label n)))
-PassedOver room b (AppendName n) new = (new ≡ b) × IsTooMuch room (size (named b (relative_labels n)))
+PassedOver room b (AppendName n) new = (0 < length (relative_octets n)) × (new ≡ b) × IsTooMuch room (size (named b (relative_labels n)))
 PassedOver room b (AppendChars s) new = (items : Items) → ReadsSymbols (chars s.now) items → ((f : TextFault) × StopsAt b (name_symbols items) new f) ⊎ LacksRoom room b (name_symbols items) new
 
 -- A call succeeds. No capacity is lost.

@@ -1,13 +1,13 @@
 //! Building names label by label, or symbol by symbol.
 ghost use Rattle.std.specs.Prelude.{◌≡◌, ◌++◌, ◌↔◌, [], ◌∷◌, ◌≤◌, ◌<◌, ◌+◌, nat_lt, length, IsTrue, IsOk, IfOk, IfErr, OnOk, OnErr, IfSome, IsSome, None};
 ghost use Rattle.std.specs.Fmt.{decimal};
-ghost use Rattle.domain_label.specs.Wire.{Root, IsRelativeWire, labels_in};
+ghost use Rattle.domain_label.specs.Wire.{wire, Root, IsRelativeWire, labels_in};
 ghost use Rattle.domain_flat.specs.FlatLabels.{TellsRelativeFault};
 ghost use Rattle.domain_builder.specs.BuilderState.{empty_state, finished, closed, pushed, ended, labelled, named, encoded, size};
 ghost use Rattle.domain_builder.specs.Inside.{room};
 ghost use Rattle.domain_builder.specs.Reverse.{hex_label};
 ghost use Rattle.domain_name.specs.Builders.{built, held};
-ghost use Rattle.domain_name.specs.Names.{name_labels, relative_labels};
+ghost use Rattle.domain_name.specs.Names.{name_labels, relative_octets, relative_labels};
 
 use crate::absolute::Name;
 use crate::relative::RelativeName;
@@ -211,7 +211,7 @@ impl<B: OctetsBuilder + OctetsMut> NameBuilder<B> {
         self.labels.push(ch)
     }
 
-    /// Adds octets to the open label, or opens one. No octets change nothing.
+    /// Adds octets to the open label, or opens one. Without octets it changes nothing, and never fails.
     ///
     /// `LongLabel` where the label would have more than 63 octets; else `LongName` where all would be more
     /// than 254; else `ShortBuf`.
@@ -220,8 +220,8 @@ impl<B: OctetsBuilder + OctetsMut> NameBuilder<B> {
         ensures made { OnOk result (built self.new ≡ pushed (built self.old) slice.now) }
         ensures unchanged { OnErr result (built self.new ≡ built self.old) }
         ensures answer { AnswersOctets B.limit slice.now (held self.old) result (held self.new) }
+        ensures some { OnErr result (0 < length slice.now) }
         ensures grows { (held self.old).capacity ≤ (held self.new).capacity }
-        ensures nothing { slice.now ≡ [] → IsOk result }
     {
         self.labels.append_slice(slice)
     }
@@ -235,7 +235,7 @@ impl<B: OctetsBuilder + OctetsMut> NameBuilder<B> {
         self.labels.end_label();
     }
 
-    /// Finishes the open label and adds a label. No octets add none.
+    /// Finishes the open label and adds a label. Without octets it adds none, and never fails.
     ///
     /// `LongLabel` where they are more than 63; else `LongName` where all would be more than 254; else
     /// `ShortBuf`.
@@ -244,8 +244,8 @@ impl<B: OctetsBuilder + OctetsMut> NameBuilder<B> {
         ensures made { OnOk result (built self.new ≡ labelled (built self.old) label.now) }
         ensures unchanged { OnErr result (built self.new ≡ built self.old) }
         ensures answer { AnswersLabel B.limit label.now (held self.old) result (held self.new) }
+        ensures some { OnErr result (0 < length label.now) }
         ensures grows { (held self.old).capacity ≤ (held self.new).capacity }
-        ensures nothing { label.now ≡ [] → IsOk result }
     {
         self.labels.append_label(label)
     }
@@ -277,7 +277,8 @@ impl<B: OctetsBuilder + OctetsMut> NameBuilder<B> {
         self.labels.append_hex_digit_label(nibble)
     }
 
-    /// Finishes the open label and adds the labels of a relative name of any kind, which are appended at once.
+    /// Finishes the open label and adds the labels of a relative name of any kind, which are appended at once. For a
+    /// name without labels it never fails.
     ///
     /// `LongName` where all would be more than 254 octets; else `ShortBuf`.
     pub fn append_name<'a, N: RelativeLabels<'a>>(
@@ -288,6 +289,7 @@ impl<B: OctetsBuilder + OctetsMut> NameBuilder<B> {
         ensures unchanged { OnErr result (built self.new ≡ built self.old) }
         ensures answer { AnswersName B.limit (N.labels name.now) (held self.old) result
             (held self.new) }
+        ensures some { OnErr result (0 < length (wire (N.labels name.now))) }
         ensures grows { (held self.old).capacity ≤ (held self.new).capacity }
     {
         self.labels.append_name(name)
@@ -300,6 +302,7 @@ impl<B: OctetsBuilder + OctetsMut> NameBuilder<B> {
         ensures unchanged { OnErr result (built self.new ≡ built self.old) }
         ensures answer { AnswersName B.limit (relative_labels name.entry) (held self.old) result
             (held self.new) }
+        ensures some { OnErr result (0 < length (relative_octets name.entry)) }
         ensures grows { (held self.old).capacity ≤ (held self.new).capacity }
     {
         self.labels.append_wire(name.as_slice())

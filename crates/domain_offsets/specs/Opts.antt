@@ -1,7 +1,7 @@
 -- Options in the data of OPT records, one after another (RFC 6891, 6.1.2).
 use Rattle.std.specs.Prelude.{◌≡◌, ◌⊎◌, ℕ, ◌+◌, ◌≤◌, ◌<◌, List, length, take, drop, Option, MatchOption}
-use Rattle.domain_edns.specs.Options.{BeginsWithOption, EndsInOption}
-use Rattle.domain_edns.specs.declared.options.EdnsOption.{EdnsOption}
+use Rattle.domain_message.specs.Options.{BeginsWithOption, EndsInOption}
+use Rattle.domain_message.specs.declared.edns_options.EdnsOption.{EdnsOption}
 use Rattle.domain_offsets.specs.declared.fault.DataFault.{DataFault}
 use Rattle.domain_offsets.specs.declared.fault.DataFault.TheVariants.{NoField, ShortInput, TrailingData, Name}
 

@@ -3,7 +3,7 @@ ghost use Rattle.std.specs.Prelude.{IfOk, IfErr};
 ghost use Rattle.domain_offsets.specs.Opts.{FindsOption, LacksOption};
 
 use crate::fault::DataFault;
-use domain_edns::EdnsOption;
+use domain_message::EdnsOption;
 
 /// The next option in the data of an OPT record, which are the `data_len` octets of the message from `data_at` on,
 /// where `passed` of them were passed before: 0, then for each option its data and the four octets before them. Its

@@ -1,5 +1,5 @@
 -- The canonical form of record data (RFC 4034, 6.2).
-use Rattle.std.specs.Prelude.{◌≡◌, ℕ, ◌+◌, ◌<◌, ◌≤◌, Bool, true, false, not, if◌then◌else◌, List, ◌++◌, length, codes, Option, None, Some}
+use Rattle.std.specs.Prelude.{◌≡◌, ℕ, ◌+◌, ◌<◌, ◌≤◌, Bool, true, not, if◌then◌else◌, List, ◌++◌, length, codes, Option, None, Some}
 use Rattle.std.specs.Int.{w16, to_be_bytes}
 use Rattle.domain_rdata.specs.Rtypes.{has_lowercase_names}
 use Rattle.domain_rdata.specs.declared.record_data.ComposeRdataError.{ComposeRdataError}

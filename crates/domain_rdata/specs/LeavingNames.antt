@@ -2,7 +2,7 @@
 -- where it may (RFC 1035, 4.1.4). `octets` is those of a target. `extends` is what the target becomes when octets are
 -- appended, and `cuts` is what it becomes when it is cut. `written` is what it becomes when its own calls append the
 -- data.
-use Rattle.std.specs.Prelude.{◌≡◌, ℕ, ◌+◌, List, length}
+use Rattle.std.specs.Prelude.{◌≡◌, ℕ, ◌+◌, ◌<◌, List, length}
 use Rattle.std.specs.Int.{w16, to_be_bytes}
 
 -- This length was appended, and then the data, which has n octets there.
@@ -25,3 +25,9 @@ pub data LeavesNames {T : Type 0} (octets : T → List ℕ) (extends : T → Lis
   at_once : (n : ℕ) → WrittenBehind octets extends written old n n new → LeavesNames octets extends cuts written old new
   measured : (n : ℕ) (again : T) → Measured octets extends cuts written old n again → WrittenBehind octets extends written again n n new → LeavesNames octets extends cuts written old new
   length_moves : (n m : ℕ) (again second : T) → Measured octets extends cuts written old n again → WrittenBehind octets extends written again n m second → (m ≡ n → ⊥) → LeavesNames octets extends cuts written old new
+
+-- The data has more octets than a length tells: behind a length of 0, as the target writes it there. Or it has no
+-- number of octets that stays, and so many with no name compressed.
+pub data Outgrows {T : Type 0} (octets : T → List ℕ) (extends : T → List ℕ → T → Type 0) (cuts : T → ℕ → T → Type 0) (written : T → T → Type 0) (uncompressed : List ℕ) (old : T) : Type 0 where
+  as_written : (n : ℕ) (made : T) → WrittenBehind octets extends written old 0 n made → 65535 < n → Outgrows octets extends cuts written uncompressed old
+  uncompressed_too : (n m : ℕ) (again second : T) → Measured octets extends cuts written old n again → WrittenBehind octets extends written again n m second → (m ≡ n → ⊥) → 65535 < length uncompressed → Outgrows octets extends cuts written uncompressed old

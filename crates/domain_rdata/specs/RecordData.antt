@@ -1,5 +1,5 @@
 -- What composing record data may append.
-use Rattle.std.specs.Prelude.{◌≡◌, ℕ, ◌+◌, ◌<◌, ◌≤◌, Bool, false, List, ◌++◌, length, take, drop, codes}
+use Rattle.std.specs.Prelude.{◌≡◌, ℕ, ◌+◌, ◌<◌, ◌≤◌, ⊤, Bool, false, List, ◌++◌, length, take, drop, codes}
 use Rattle.std.specs.Int.{w16, to_be_bytes}
 use Rattle.domain_rdata.specs.declared.record_data.ComposeRdataError.{ComposeRdataError}
 use Rattle.domain_rdata.specs.declared.record_data.ComposeRdataError.TheVariants.{Append, Long}
@@ -30,23 +30,28 @@ pub record LengthAndData (May : List ℕ → List ℕ → Type 0) (old new : Lis
   pub few : length octets ≤ 65535
   pub all : new ≡ old ++ to_be_bytes w16 (length octets) ++ octets
 
--- Two octets, or these and data that may be composed, exceed the spare capacity.
-pub data ExceedsWithLength (May : List ℕ → List ℕ → Type 0) (old : List ℕ) (capacity : ℕ) : Type 0 where
-  no_length : capacity < length old + 2 → ExceedsWithLength May old capacity
-  no_data : (before s : List ℕ) → length before ≡ 2 → May (old ++ before) s → capacity < length old + 2 + length s → ExceedsWithLength May old capacity
-
--- Data that may be composed has more octets than a length tells.
-pub record IsTooLong (May : List ℕ → List ℕ → Type 0) (old : List ℕ) : Type 0 where
-  pub before : List ℕ
-  pub two : length before ≡ 2
+-- Two octets and data that may be composed after whichever octets, as that with no name compressed, exceed the spare
+-- capacity.
+pub record ExceedsWithLength (May : List ℕ → List ℕ → Type 0) (old : List ℕ) (capacity : ℕ) : Type 0 where
   pub octets : List ℕ
-  pub allowed : May (old ++ before) octets
+  pub allowed : (t : List ℕ) → May t octets
+  pub full : capacity < length old + (2 + length octets)
+
+-- Data that may be composed after a length of 0 has more octets than a length tells.
+pub record IsTooLong (May : List ℕ → List ℕ → Type 0) (old : List ℕ) : Type 0 where
+  pub octets : List ℕ
+  pub allowed : May (old ++ to_be_bytes w16 0) octets
   pub many : 65535 < length octets
 
 -- Why nothing was appended.
 abbrev pub ComposeRefused : {E : Type 0} → (List ℕ → List ℕ → Type 0) → List ℕ → ℕ → ComposeRdataError E → Type 0
 ComposeRefused May old capacity (Append e) = ExceedsWithLength May old capacity
 ComposeRefused May old capacity (Long _) = IsTooLong May old
+
+-- What holds where the data is too long.
+abbrev pub IfLong : {E : Type 0} → Type 0 → ComposeRdataError E → Type 0
+IfLong P (Append e) = ⊤
+IfLong P (Long _) = P
 
 -- the text that says why nothing was appended
 abbrev pub compose_error_text : {E : Type 0} → ComposeRdataError E → List ℕ

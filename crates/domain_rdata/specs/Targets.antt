@@ -3,10 +3,10 @@
 -- a target that may or may not write names shorter. `written` gives what any target becomes by its own calls.
 use Rattle.std.specs.Prelude.{◌≡◌, ℕ, Bool, true, false, List, length, Option, Result, OnOk, IfSome}
 use Rattle.domain_rdata.specs.Canonical.{canonical_form, WithForm, WithLengthAndForm, FormExceeds, CanonicalRefused}
-use Rattle.domain_rdata.specs.LeavingNames.{WrittenBehind, LeavesNames}
+use Rattle.domain_rdata.specs.LeavingNames.{WrittenBehind, LeavesNames, Outgrows}
 use Rattle.domain_rdata.specs.Members.{Writing, ComposerMembers, DataMembers}
 use Rattle.domain_rdata.specs.ReadBack.{Appended, Exceeds}
-use Rattle.domain_rdata.specs.RecordData.{DataAfterLength, LengthAndData, ExceedsWithLength, ComposeRefused}
+use Rattle.domain_rdata.specs.RecordData.{DataAfterLength, LengthAndData, ExceedsWithLength, ComposeRefused, IfLong}
 use Rattle.domain_rdata.specs.declared.record_data.ComposeRdataError.{ComposeRdataError}
 
 -- Cut to the octets that were there before, the target remembers what it did then.
@@ -24,10 +24,6 @@ NameOverflows g labels name old = Exceeds (g.may_append old (labels name)) (g.oc
 -- The target grew by octets that may be composed.
 abbrev pub Grows : {T : Type 0} → ComposerMembers T → (Bool → List ℕ → List ℕ → Type 0) → T → T → Type 0
 Grows g may old new = Appended (may g.compresses (g.octets old)) (g.octets old) (g.octets new)
-
--- Octets that may be composed exceed its spare capacity.
-abbrev pub Overflows : {T : Type 0} → ComposerMembers T → (Bool → List ℕ → List ℕ → Type 0) → T → Type 0
-Overflows g may old = Exceeds (may g.compresses (g.octets old)) (g.octets old) (g.capacity old)
 
 -- What was written was left to the target: it became what it is by its own calls for names and for other octets.
 abbrev pub LeftTo : {T : Type 0} → ComposerMembers T → Writing → T → T → Type 0
@@ -47,6 +43,11 @@ LeavesTo {T = T} g written old new result =
     g.compresses ≡ true
     → OnOk result (LeavesNames g.octets g.extends g.cuts (written T g.extends g.appends) old new)
 
+-- Data that is too long is so as the target writes it.
+abbrev pub OutgrowsAsWritten : {T E : Type 0} → ComposerMembers T → Writing → List ℕ → T → ComposeRdataError E → Type 0
+OutgrowsAsWritten {T = T} g written uncompressed old e =
+    IfLong (Outgrows g.octets g.extends g.cuts (written T g.extends g.appends) uncompressed old) e
+
 -- n octets that may be composed follow this length.
 abbrev pub Follows : {T : Type 0} → ComposerMembers T → (Bool → List ℕ → List ℕ → Type 0) → ℕ → T → T → ℕ → Type 0
 Follows g may len old new n = DataAfterLength (may g.compresses) (g.octets old) len n (g.octets new)
@@ -56,7 +57,7 @@ abbrev pub FollowsLeft : {T : Type 0} → ComposerMembers T → Writing → ℕ 
 FollowsLeft {T = T} g written len old new n =
     WrittenBehind g.octets g.extends (written T g.extends g.appends) old len n new
 
--- Two octets, or these and data that may be composed, exceed the spare capacity.
+-- Two octets and data that may be composed wherever exceed the spare capacity.
 abbrev pub OverflowsWithLength : {T : Type 0} → ComposerMembers T → (Bool → List ℕ → List ℕ → Type 0) → T → Type 0
 OverflowsWithLength g may old = ExceedsWithLength (may g.compresses) (g.octets old) (g.capacity old)
 

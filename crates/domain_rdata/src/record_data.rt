@@ -1,18 +1,19 @@
 //! What record data is read and composed by (RFC 1035, 3.2.1).
-ghost use Rattle.std.specs.Prelude.{◌≡◌, ◌↔◌, ℕ, ◌+◌, ◌≤◌, Bool, false, true, List, length, Option, Some};
+ghost use Rattle.std.specs.Prelude.{◌≡◌, ◌↔◌, ℕ, ◌+◌, ◌<◌, ◌≤◌, Bool, false, true, List, length, Option, Some};
 ghost use Rattle.std.specs.Prelude.{IfOk, OnOk, IfErr, OnErr, IfSome, IsNone};
+ghost use Rattle.octseq.specs.Appending.{TooFull};
 ghost use Rattle.octseq.specs.Parsing.{message, position, MovesTo};
 ghost use Rattle.domain_wire.specs.Values.{IsReading};
 ghost use Rattle.domain_wire.specs.declared.error.ParseError.{ParseError};
 ghost use Rattle.domain_rdata.specs.Canonical.{names_known};
-ghost use Rattle.domain_rdata.specs.RecordData.{with_length_at};
+ghost use Rattle.domain_rdata.specs.RecordData.{with_length_at, IfLong};
 ghost use Rattle.domain_rdata.specs.Rtypes.{rtype_number};
 ghost use Rattle.domain_rdata.specs.Members.{Writing};
 ghost use Rattle.domain_rdata.specs.OctetsAlone.{WritesComposed};
 ghost use Rattle.domain_rdata.specs.Parsers.{IsOfType, ReadsData, ReadsIfSome, HasNoData};
-ghost use Rattle.domain_rdata.specs.Targets.{RemembersAsBefore, Grows, Overflows, LeftTo, FollowsOwn, NotComposed, LeavesTo};
+ghost use Rattle.domain_rdata.specs.Targets.{RemembersAsBefore, Grows, LeftTo, FollowsOwn, NotComposed, LeavesTo, OutgrowsAsWritten};
 ghost use Rattle.domain_rdata.specs.Targets.{Follows, FollowsLeft, OverflowsWithLength, AllHaveLength, TellsFormLength};
-ghost use Rattle.domain_rdata.specs.Targets.{GrowsByForm, GrowsByLengthAndForm, FormOverflows, NoLengthAndForm};
+ghost use Rattle.domain_rdata.specs.Targets.{form_of, GrowsByForm, GrowsByLengthAndForm, FormOverflows, NoLengthAndForm};
 
 use crate::composer::Composer;
 use crate::long::LongRecordData;
@@ -133,8 +134,8 @@ pub trait ComposeRecordData: RecordData {
 
     /// Appends the data, or nothing.
     ///
-    /// It is refused only where octets that may be appended exceed the spare capacity of the target,
-    /// and leaves its octets then.
+    /// It is refused only where there are octets, and those with no name compressed exceed the spare capacity of the
+    /// target. It leaves its octets then.
     fn compose_rdata<Target: Composer>(
         &self,
         target: &mut Target,
@@ -144,15 +145,16 @@ pub trait ComposeRecordData: RecordData {
             (LeftTo Target.Composer (written self.now) target.old target.new) }
         ensures memory { RemembersAsBefore Target.Composer target.old target.new }
         ensures unchanged { OnErr result (Target.octets target.new ≡ Target.octets target.old) }
-        ensures full { OnErr result (Overflows Target.Composer (composed self.now) target.old) }
+        ensures full { OnErr result (TooFull Target.Octets target.old (uncompressed self.now)) }
+        ensures some { OnErr result (0 < length (uncompressed self.now)) }
         ensures capacity { Target.capacity target.old ≤ Target.capacity target.new };
 
     /// Appends the canonical form of the data, or nothing (RFC 4034, 6.2). No name is compressed. Names are in
     /// lowercase exactly when [`Rtype::has_lowercase_names`] returns `true` for the type. For data held as octets, it
     /// isn't known which of them are names: they are appended unchanged ([`CanonicalRecordData::knows_names`]).
     ///
-    /// The call fails only if the octets of the form exceed the spare capacity of the target. The target's octets are
-    /// then unchanged.
+    /// The call fails only if the form has octets, and they exceed the spare capacity of the target. The target's
+    /// octets are then unchanged.
     fn compose_canonical_rdata<Target: Composer>(
         &self,
         target: &mut Target,
@@ -163,13 +165,15 @@ pub trait ComposeRecordData: RecordData {
         ensures unchanged { OnErr result (Target.octets target.new ≡ Target.octets target.old) }
         ensures full { OnErr result
             (FormOverflows Target.Composer Self.ComposeRecordData self.now target.old) }
+        ensures some { OnErr result (0 < length (form_of Self.ComposeRecordData self.now)) }
         ensures capacity { Target.capacity target.old ≤ Target.capacity target.new };
 
     /// Appends the length of the data in two octets, and the data, or nothing.
     ///
-    /// `Long` only where data that may be appended has more than 65,535 octets, `Append` only where it exceeds, with
-    /// its length, the spare capacity. The target's octets are then as before. A target that writes names shorter is
-    /// left to do so, but where no length is right: there no name is written shorter.
+    /// `Long` only where the data has more than 65,535 octets as the target writes it. `Append` only where the data
+    /// with no name compressed exceeds, with its length, the spare capacity. The target's octets are then as before. A
+    /// target that writes names shorter is left to do so, but where no length is right: there no name is written
+    /// shorter, and `Long` is about these octets.
     final fn compose_len_rdata<Target: Composer>(
         &self,
         target: &mut Target,
@@ -180,6 +184,8 @@ pub trait ComposeRecordData: RecordData {
         ensures memory { RemembersAsBefore Target.Composer target.old target.new }
         ensures unchanged { OnErr result (Target.octets target.new ≡ Target.octets target.old) }
         ensures why { IfErr result (NotComposed Target.Composer (composed self.now) target.old) }
+        ensures long { IfErr result (OutgrowsAsWritten Target.Composer (written self.now)
+            (uncompressed self.now) target.old) }
         ensures capacity { Target.capacity target.old ≤ Target.capacity target.new }
     {
         let Some(len) = self.rdlen(target.can_compress()) else {
@@ -296,6 +302,8 @@ fn compose_measured<D: ComposeRecordData, T: Composer>(
     ensures memory { RemembersAsBefore T.Composer target.old target.new }
     ensures unchanged { OnErr result (T.octets target.new ≡ T.octets target.old) }
     ensures why { IfErr result (NotComposed T.Composer (D.composed rdata.now) target.old) }
+    ensures long { IfErr result (OutgrowsAsWritten T.Composer (D.written rdata.now)
+        (D.uncompressed rdata.now) target.old) }
     ensures capacity { T.capacity target.old ≤ T.capacity target.new }
 {
     let start = target.as_slice().len();
@@ -335,6 +343,7 @@ fn compose_flat<D: ComposeRecordData, T: Composer>(
     ensures memory { RemembersAsBefore T.Composer target.old target.new }
     ensures unchanged { OnErr result (T.octets target.new ≡ T.octets target.old) }
     ensures why { IfErr result (NotComposed T.Composer (D.composed rdata.now) target.old) }
+    ensures long { IfErr result (IfLong (65535 < length (D.uncompressed rdata.now))) }
     ensures capacity { T.capacity target.old ≤ T.capacity target.new }
 {
     let mut octets = ArrayVec::<u8, MOST_OCTETS>::new();

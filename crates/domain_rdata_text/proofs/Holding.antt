@@ -10,17 +10,24 @@ use Rattle.domain_descriptor.specs.declared.kind.FieldKind.{FieldKind}
 use Rattle.domain_rdata_text.specs.declared.form.TextForm.{TextForm}
 use Rattle.domain_rdata_text.specs.declared.form.TextForm.TheVariants as forms
 use Rattle.domain_rdata_text.specs.declared.value.Open.TheVariants.{Between}
+use Rattle.domain_rdata_text.specs.Bitmaps.{bitmaps_of, types_of_bitmaps}
 use Rattle.domain_rdata_text.specs.Forms.{text_form}
 use Rattle.domain_rdata_text.specs.Laws.{AreOctets}
 use Rattle.domain_rdata_text.specs.Names.{is_name, are_labels_in}
 use Rattle.domain_rdata_text.specs.Texts.{has_text}
-use Rattle.domain_rdata_text.specs.Values.{Val, form_of_val, counted, val_octets, vals_octets, val_in, number8_in, number16_in, rtype_in, number32_in, time_in, ipv4_in, ipv6_in, string_in, counted16_in, strings_in, strings_or, is_tag, tag_in, ValueAt, ValuesAt}
-use Rattle.domain_rdata_text.specs.Values.Val.{number8, number16, number32, time, rtype, ipv4, ipv6, name, string, strings, tag, quoted, base16, base64, counted16, generic}
+use Rattle.domain_rdata_text.specs.Values.{Val, form_of_val, counted, val_octets, vals_octets, val_in, number8_in, number16_in, rtype_in, number32_in, time_in, ipv4_in, ipv6_in, string_in, optional_string_in, counted16_in, counted32_in, types_or, optional_types_or, strings_in, strings_or, is_tag, tag_in, ValueAt, ValuesAt}
+use Rattle.domain_rdata_text.specs.Values.Val.{number8, number16, number32, time, rtype, ipv4, ipv6, name, string, optional_string, strings, tag, quoted, base16, base64, counted16, counted32, types, optional_types, generic}
 use Rattle.domain_rdata_text.proofs.Octets.{octets_append, octets_range, same_pair}
 use Rattle.domain_rdata_text.proofs.Strung.{IsString, octets_of, all_short}
+use Rattle.domain_rdata_text.proofs.Windows.{AreTypes, are_bitmaps}
+
+-- a string of at most 255 octets, or none
+abbrev pub IsOptional : Option (List ℕ) → Type 0
+IsOptional None = Unit {0}
+IsOptional (Some s) = (length s ≤ 255) × AreOctets s
 
 -- A field can hold this: a number of so many bits, four octets or sixteen, a name of at most 255 octets, strings of at
--- most 255.
+-- most 255, types of 16 bits.
 abbrev pub IsVal : Val → Type 0
 IsVal (number8 n) = n < 256
 IsVal (number16 n) = n < 65536
@@ -31,12 +38,16 @@ IsVal (ipv4 os) = (length os ≡ 4) × AreOctets os
 IsVal (ipv6 os) = (length os ≡ 16) × AreOctets os
 IsVal (name ls) = (is_name ls ≡ true) × AllByRecursion AreOctets ls
 IsVal (string s) = (length s ≤ 255) × AreOctets s
+IsVal (optional_string o) = IsOptional o
 IsVal (strings ss) = AllByRecursion IsString ss
 IsVal (tag s) = (length s ≤ 255) × AreOctets s × (is_tag s ≡ true)
 IsVal (quoted s) = AreOctets s
 IsVal (base16 os) = AreOctets os
 IsVal (base64 os) = AreOctets os
 IsVal (counted16 s) = (length s ≤ 255) × AreOctets s
+IsVal (counted32 s) = (length s ≤ 255) × AreOctets s
+IsVal (types ts) = AreTypes ts × AreOctets (bitmaps_of ts)
+IsVal (optional_types ts) = AreTypes ts × AreOctets (bitmaps_of ts)
 IsVal (generic os) = AreOctets os
 
 -- what is written so, where it has a text
@@ -140,11 +151,35 @@ held_string (n ∷ s) h = cond_both (length s == n) (string s) (generic (n ∷ s
     (λ e. record { octets = counted_is n s e; val = (counted_short n s h.0 e, h.1); written = λ _. refl })
     (λ e. held_generic forms.CharString (n ∷ s) h)
 
+held_optional_string : (os : List ℕ) → AreOctets os → Held forms.OptionalString os (optional_string_in os)
+held_optional_string [] h = record { octets = refl; val = tt; written = λ _. refl }
+held_optional_string (n ∷ s) h = cond_both (length s == n) (optional_string (Some s)) (generic (n ∷ s)) (λ v. Held forms.OptionalString (n ∷ s) v)
+    (λ e. record { octets = counted_is n s e; val = (counted_short n s h.0 e, h.1); written = λ _. refl })
+    (λ e. held_generic forms.OptionalString (n ∷ s) h)
+
 held_counted16 : (os : List ℕ) → AreOctets os → Held forms.CountedBase16 os (counted16_in os)
 held_counted16 [] h = held_generic forms.CountedBase16 [] h
 held_counted16 (n ∷ s) h = cond_both (length s == n) (counted16 s) (generic (n ∷ s)) (λ v. Held forms.CountedBase16 (n ∷ s) v)
     (λ e. record { octets = counted_is n s e; val = (counted_short n s h.0 e, h.1); written = λ _. refl })
     (λ e. held_generic forms.CountedBase16 (n ∷ s) h)
+
+held_counted32 : (os : List ℕ) → AreOctets os → Held forms.CountedBase32 os (counted32_in os)
+held_counted32 [] h = held_generic forms.CountedBase32 [] h
+held_counted32 (n ∷ s) h = cond_both (length s == n) (counted32 s) (generic (n ∷ s)) (λ v. Held forms.CountedBase32 (n ∷ s) v)
+    (λ e. record { octets = counted_is n s e; val = (counted_short n s h.0 e, h.1); written = λ _. refl })
+    (λ e. held_generic forms.CountedBase32 (n ∷ s) h)
+
+held_types : (os : List ℕ) (o : Option (List ℕ)) → AreOctets os → types_of_bitmaps os ≡ o → Held forms.Types os (types_or os o)
+held_types os None h e = held_generic forms.Types os h
+held_types os (Some ts) h e =
+    let are = are_bitmaps os ts h e in
+    record { octets = are.octets; val = (are.types, subst AreOctets (sym are.octets) h); written = λ _. refl }
+
+held_optional : (os : List ℕ) (o : Option (List ℕ)) → AreOctets os → types_of_bitmaps os ≡ o → Held forms.OptionalTypes os (optional_types_or os o)
+held_optional os None h e = held_generic forms.OptionalTypes os h
+held_optional os (Some ts) h e =
+    let are = are_bitmaps os ts h e in
+    record { octets = are.octets; val = (are.types, subst AreOctets (sym are.octets) h); written = λ _. refl }
 
 held_tag : (os : List ℕ) → AreOctets os → Held forms.Tag os (tag_in os)
 held_tag [] h = held_generic forms.Tag [] h
@@ -172,12 +207,16 @@ held_in forms.Ipv4 os h = held_ipv4 os h
 held_in forms.Ipv6 os h = held_ipv6 os h
 held_in forms.Name os h = held_generic forms.Name os h
 held_in forms.CharString os h = held_string os h
+held_in forms.OptionalString os h = held_optional_string os h
 held_in forms.CharStrings os h = held_or os (strings_in [] [] Between os) h refl
 held_in forms.Tag os h = held_tag os h
 held_in forms.QuotedText os h = record { octets = refl; val = h; written = λ _. refl }
 held_in forms.Base16 os h = record { octets = refl; val = h; written = λ _. refl }
 held_in forms.Base64 os h = record { octets = refl; val = h; written = λ _. refl }
 held_in forms.CountedBase16 os h = held_counted16 os h
+held_in forms.CountedBase32 os h = held_counted32 os h
+held_in forms.Types os h = held_types os (types_of_bitmaps os) h refl
+held_in forms.OptionalTypes os h = held_optional os (types_of_bitmaps os) h refl
 held_in forms.Generic os h = held_generic forms.Generic os h
 
 -- ---- names
@@ -275,12 +314,17 @@ val_low (ipv4 os) h = h.1
 val_low (ipv6 os) h = h.1
 val_low (name ls) h = labels_low 254 ls h.0 h.1
 val_low (string s) h = (omega (arith, h.0), h.1)
+val_low (optional_string None) h = tt
+val_low (optional_string (Some s)) h = (omega (arith, h.0), h.1)
 val_low (strings ss) h = strings_low ss h
 val_low (tag s) h = (omega (arith, h.0), h.1)
 val_low (quoted s) h = h
 val_low (base16 os) h = h
 val_low (base64 os) h = h
 val_low (counted16 s) h = (omega (arith, h.0), h.1)
+val_low (counted32 s) h = (omega (arith, h.0), h.1)
+val_low (types ts) h = h.1
+val_low (optional_types ts) h = h.1
 val_low (generic os) h = h
 
 pub vals_low : (kinds : List FieldKind) (vs : List Val) → AllHeld kinds vs → AreOctets (vals_octets vs)

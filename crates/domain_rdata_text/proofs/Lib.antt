@@ -12,6 +12,9 @@ pub mod Runs
 pub mod Colons
 pub mod Digits
 pub mod Sextets
+pub mod Quintets
+pub mod Counting
+pub mod Windows
 pub mod Holding
 pub mod Gathering
 pub mod Plainly

@@ -1,5 +1,5 @@
 -- No word of a field is the mark of data of any type.
-use Rattle.std.proofs.Common.{◌≡◌, ◌∙◌, ℕ, ◌+◌, ◌/◌, ◌%◌, ◌<◌, ◌^◌, Bool, true, false, ◌==◌, ◌||◌, List, [], ◌∷◌, ◌++◌, length, refl, ap, arith}
+use Rattle.std.proofs.Common.{◌≡◌, ◌∙◌, ℕ, ◌+◌, ◌/◌, ◌%◌, ◌<◌, ◌^◌, Bool, true, false, ◌==◌, ◌||◌, List, [], ◌∷◌, ◌++◌, length, Some, None, refl, ap, arith}
 use mathlib.Core.Bool.{not}
 use Rattle.std.specs.Char.{is_ascii_alphanumeric}
 use Rattle.std.specs.List.{AllByRecursion, flat_map, list_all}
@@ -8,18 +8,21 @@ use Rattle.std.proofs.lemmas.Bool.{false≢true, agree_below_at, and_left, and_p
 use Rattle.std.proofs.lemmas.Fmt.{decimal_by_steps}
 use Rattle.domain_rdata_text.specs.Addresses.{dotted, ipv4_text}
 use Rattle.domain_rdata_text.specs.Ipv6.{ipv6_text}
+use Rattle.domain_rdata_text.specs.Base32.{base32_digit, base32_rest}
 use Rattle.domain_rdata_text.specs.Base64.{base64_text}
+use Rattle.domain_rdata_text.specs.declared.base32.Low.TheVariants as lows
 use Rattle.domain_rdata_text.specs.Hex.{hex_digit, hex_text, is_mark_word}
 use Rattle.domain_rdata_text.specs.Laws.{AreOctets}
 use Rattle.domain_rdata_text.specs.Names.{label_octet, label_text, name_text, is_special, is_unprinted, is_name}
 use Rattle.domain_rdata_text.specs.Rtypes.{type_text}
 use Rattle.domain_rdata_text.specs.Strings.{quoted_octet, string_text}
 use Rattle.domain_rdata_text.specs.Symbols.{octet_text}
-use Rattle.domain_rdata_text.specs.Texts.{val_words, starts_mark, has_text}
+use Rattle.domain_rdata_text.specs.Texts.{val_words, starts_mark, has_text, takes_all}
 use Rattle.domain_rdata_text.specs.Values.{Val, is_tag}
-use Rattle.domain_rdata_text.specs.Values.Val.{number8, number16, number32, time, rtype, ipv4, ipv6, name, string, strings, tag, quoted, base16, base64, counted16, generic}
+use Rattle.domain_rdata_text.specs.Values.Val.{number8, number16, number32, time, rtype, ipv4, ipv6, name, string, optional_string, strings, tag, quoted, base16, base64, counted16, counted32, types, optional_types, generic}
 use Rattle.domain_rdata_text.proofs.Colons.{ipv6_begins}
 use Rattle.domain_rdata_text.proofs.Holding.{IsVal}
+use Rattle.domain_rdata_text.proofs.Quintets.{digit_no_slash}
 use Rattle.domain_rdata_text.proofs.Sextets.{base64_begins}
 use Rattle.domain_rdata_text.proofs.Splitting.{placed}
 use Rattle.domain_rdata_text.proofs.Types.{type_begins}
@@ -82,25 +85,33 @@ hex_plain c h = agree_below_at (λ n. hex_digit (n / 16) == 92) (λ n. false) 25
 string_no_mark : (s : List ℕ) → is_mark_word (string_text s) ≡ false
 string_no_mark s = plain_first 34 (flat_map quoted_octet s ++ 34 ∷ []) refl
 
--- the first word of a field that has a text is no mark
-pub first_no_mark : (n : ℕ) (v : Val) (us : List (List ℕ)) → IsVal v → has_text v ≡ true → starts_mark (placed n (val_words v ++ us)) ≡ false
-first_no_mark n (number8 x) us h t = no_mark (decimal x) (decimal_plain x (omega (arith, h)))
-first_no_mark n (number16 x) us h t = no_mark (decimal x) (decimal_plain x (omega (arith, h)))
-first_no_mark n (number32 x) us h t = no_mark (decimal x) (decimal_plain x (omega (arith, h)))
-first_no_mark n (time x) us h t = no_mark (decimal x) (decimal_plain x (omega (arith, h)))
-first_no_mark n (rtype x) us h t = no_mark (type_text x) (type_begins x)
-first_no_mark n (ipv4 os) us h t = no_mark (ipv4_text os) (ipv4_plain os h.0 h.1)
-first_no_mark n (ipv6 os) us h t = no_mark (ipv6_text os) (ipv6_begins os h.0 h.1)
-first_no_mark n (name ls) us h t = name_no_mark ls h.0 h.1
-first_no_mark n (string s) us h t = string_no_mark s
-first_no_mark n (strings []) us h t = absurd (false≢true t)
-first_no_mark n (strings (s ∷ ss)) us h t = string_no_mark s
-first_no_mark n (tag s) us h t = tag_no_mark s h.1 h.2
-first_no_mark n (quoted s) us h t = string_no_mark s
-first_no_mark n (base16 []) us h t = absurd (false≢true t)
-first_no_mark n (base16 (c ∷ os)) us h t = plain_first (hex_digit (c / 16)) (hex_digit (c % 16) ∷ hex_text os) (hex_plain c h.0)
-first_no_mark n (base64 []) us h t = absurd (false≢true t)
-first_no_mark n (base64 (c ∷ os)) us h t = no_mark (base64_text (c ∷ os)) (base64_begins c os h.0)
-first_no_mark n (counted16 []) us h t = refl
-first_no_mark n (counted16 (c ∷ os)) us h t = plain_first (hex_digit (c / 16)) (hex_digit (c % 16) ∷ hex_text os) (hex_plain c h.1.0)
-first_no_mark n (generic os) us h t = absurd (false≢true t)
+-- the first word of a field that has a text is no mark, nor is there one where it has none
+pub first_no_mark : (n : ℕ) (v : Val) (us : List (List ℕ)) → IsVal v → has_text v ≡ true → (takes_all v ≡ true → us ≡ []) → starts_mark (placed n (val_words v ++ us)) ≡ false
+first_no_mark n (number8 x) us h t l = no_mark (decimal x) (decimal_plain x (omega (arith, h)))
+first_no_mark n (number16 x) us h t l = no_mark (decimal x) (decimal_plain x (omega (arith, h)))
+first_no_mark n (number32 x) us h t l = no_mark (decimal x) (decimal_plain x (omega (arith, h)))
+first_no_mark n (time x) us h t l = no_mark (decimal x) (decimal_plain x (omega (arith, h)))
+first_no_mark n (rtype x) us h t l = no_mark (type_text x) (type_begins x)
+first_no_mark n (ipv4 os) us h t l = no_mark (ipv4_text os) (ipv4_plain os h.0 h.1)
+first_no_mark n (ipv6 os) us h t l = no_mark (ipv6_text os) (ipv6_begins os h.0 h.1)
+first_no_mark n (name ls) us h t l = name_no_mark ls h.0 h.1
+first_no_mark n (string s) us h t l = string_no_mark s
+first_no_mark n (optional_string None) us h t l = ap (λ (x : List (List ℕ)). starts_mark (placed n x)) (l refl)
+first_no_mark n (optional_string (Some s)) us h t l = string_no_mark s
+first_no_mark n (strings []) us h t l = absurd (false≢true t)
+first_no_mark n (strings (s ∷ ss)) us h t l = string_no_mark s
+first_no_mark n (tag s) us h t l = tag_no_mark s h.1 h.2
+first_no_mark n (quoted s) us h t l = string_no_mark s
+first_no_mark n (base16 []) us h t l = absurd (false≢true t)
+first_no_mark n (base16 (c ∷ os)) us h t l = plain_first (hex_digit (c / 16)) (hex_digit (c % 16) ∷ hex_text os) (hex_plain c h.0)
+first_no_mark n (base64 []) us h t l = absurd (false≢true t)
+first_no_mark n (base64 (c ∷ os)) us h t l = no_mark (base64_text (c ∷ os)) (base64_begins c os h.0)
+first_no_mark n (counted16 []) us h t l = refl
+first_no_mark n (counted16 (c ∷ os)) us h t l = plain_first (hex_digit (c / 16)) (hex_digit (c % 16) ∷ hex_text os) (hex_plain c h.1.0)
+first_no_mark n (counted32 []) us h t l = absurd (false≢true t)
+first_no_mark n (counted32 (c ∷ os)) us h t l = plain_first (base32_digit (c / 8)) (base32_rest (lows.Three (c % 8)) os) (digit_no_slash (c / 8) (omega (arith, h.1.0)))
+first_no_mark n (types []) us h t l = absurd (false≢true t)
+first_no_mark n (types (x ∷ ts)) us h t l = no_mark (type_text x) (type_begins x)
+first_no_mark n (optional_types []) us h t l = ap (λ (x : List (List ℕ)). starts_mark (placed n x)) (l refl)
+first_no_mark n (optional_types (x ∷ ts)) us h t l = no_mark (type_text x) (type_begins x)
+first_no_mark n (generic os) us h t l = absurd (false≢true t)

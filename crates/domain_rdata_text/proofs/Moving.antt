@@ -1,5 +1,5 @@
 -- A field is the same wherever its octets are.
-use Rattle.std.proofs.Common.{◌≡◌, ◌∙◌, ◌⊎◌, ℕ, ◌+◌, ◌*◌, ◌-◌, ◌<◌, ◌≤◌, List, [], ◌∷◌, ◌++◌, length, take, drop, get_or, slice_index, slice_range, refl, sym, subst, ap, inl, inr, length-append, length-drop, arith}
+use Rattle.std.proofs.Common.{◌≡◌, ◌∙◌, ℕ, ◌+◌, ◌-◌, ◌<◌, ◌≤◌, List, [], ◌∷◌, ◌++◌, length, take, drop, get_or, slice_index, slice_range, refl, sym, subst, ap, inl, inr, length-append, length-drop, arith}
 use Rattle.std.specs.Int.{w16, from_be_bytes}
 use Rattle.std.proofs.lemmas.List.{get_or-append-add, get_or_append_left, take-append-le, drop-append-le}
 use Rattle.std.proofs.Math.Seq.{drop-append-add}

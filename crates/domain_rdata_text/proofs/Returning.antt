@@ -62,7 +62,9 @@ fields_back n len (k ∷ kinds) (v ∷ vs) h f os =
 fields_no_mark : (n : ℕ) (kinds : List FieldKind) (vs : List Val) → AllHeld kinds vs → in_fields vs ≡ true → starts_mark (placed n (flat_map val_words vs)) ≡ false
 fields_no_mark n kinds [] h f = refl
 fields_no_mark n [] (v ∷ vs) h f = absurd h
-fields_no_mark n (k ∷ kinds) (v ∷ vs) h f = first_no_mark n v (flat_map val_words vs) h.0 (first v vs f).text
+fields_no_mark n (k ∷ kinds) (v ∷ vs) h f =
+    let it = first v vs f in
+    first_no_mark n v (flat_map val_words vs) h.0 it.text (λ e. ap (λ (x : List Val). flat_map val_words x) (it.last e))
 
 short_back : (len : ℕ) (os : List ℕ) → length os ≤ 65535 → only_data len (Ok os) ≡ Ok os
 short_back len os h = cond-true (nat_le (length os) 65535) (Ok os) (Err (fault len reasons.LongData)) (le-leb (length os) 65535 h)

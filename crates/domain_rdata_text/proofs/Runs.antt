@@ -1,5 +1,5 @@
 -- The run of zeros that `::` stands for.
-use Rattle.std.proofs.Common.{◌≡◌, ◌∙◌, ℕ, zero, suc, ◌+◌, ◌-◌, ◌<◌, ◌≤◌, Bool, true, false, ◌==◌, cond, nat_lt, nat_le, List, [], ◌∷◌, ◌++◌, length, take, drop, replicate, refl, sym, ap, length-drop, arith}
+use Rattle.std.proofs.Common.{◌≡◌, ◌∙◌, ℕ, zero, suc, ◌+◌, ◌<◌, ◌≤◌, Bool, true, false, ◌==◌, cond, nat_lt, nat_le, List, [], ◌∷◌, ◌++◌, length, take, drop, replicate, refl, sym, ap, length-drop, arith}
 use Rattle.std.proofs.lemmas.Bool.{eqb-true, leb-true, leb-false, cond_both}
 use Rattle.std.proofs.lemmas.List.{take-append-drop, drop-drop}
 use Rattle.domain_rdata_text.specs.Ipv6.{zeros, longest_run, before_run}

@@ -1,5 +1,5 @@
 -- The octets of what fields hold are data with these fields.
-use Rattle.std.proofs.Common.{◌≡◌, ◌∙◌, ◌⊎◌, ℕ, ◌+◌, ◌-◌, ◌<◌, ◌≤◌, List, [], ◌∷◌, ◌++◌, length, take, drop, slice_range, refl, sym, subst, ap, inl, inr, append_assoc, append-nil, length-append, length-drop, arith}
+use Rattle.std.proofs.Common.{◌≡◌, ◌∙◌, ℕ, ◌+◌, ◌-◌, ◌≤◌, List, [], ◌∷◌, ◌++◌, length, take, drop, slice_range, refl, sym, subst, ap, inl, inr, append_assoc, append-nil, length-append, length-drop, arith}
 use Rattle.std.proofs.lemmas.List.{length-take-le, take-append-drop}
 use Rattle.std.proofs.lemmas.List.Folds.{drop_split}
 use Rattle.domain_label.specs.Wire.{wire, Root}
@@ -7,7 +7,7 @@ use Rattle.domain_reading.proofs.Encodings.{stop_whole}
 use Rattle.domain_reading.proofs.Reading.{names_absolute, names_within}
 use Rattle.domain_reading.proofs.Touching.{reads_inside}
 use Rattle.domain_reading.proofs.UncompressedIsRead.{plain_names, plain_front}
-use Rattle.domain_reading.specs.Grammar.{Names, Encoding, EncodingEnds}
+use Rattle.domain_reading.specs.Grammar.{Names, EncodingEnds}
 use Rattle.domain_reading.specs.Grammar.Stop.{root as stop_root}
 use Rattle.domain_descriptor.proofs.Whole.{field_inside}
 use Rattle.domain_descriptor.specs.declared.form.FieldForm.{FieldForm}
@@ -22,7 +22,7 @@ use Rattle.domain_rdata_text.specs.Texts.{IsPlain}
 use Rattle.domain_rdata_text.specs.Values.{Val, val_octets, vals_octets, val_in, ValueAt, ValuesAt}
 use Rattle.domain_rdata_text.specs.Values.Val.{name}
 use Rattle.domain_rdata_text.proofs.Holding.{held_in}
-use Rattle.domain_rdata_text.proofs.Moving.{Moved, moved, form_moved}
+use Rattle.domain_rdata_text.proofs.Moving.{moved, form_moved}
 use Rattle.domain_rdata_text.proofs.Octets.{octets_range}
 
 -- ---- fields end inside of the octets

@@ -8,30 +8,34 @@ use Rattle.std.proofs.lemmas.Grind.{common_steps}
 use Rattle.domain_rdata_text.specs.declared.error.Fault.{Fault}
 use Rattle.domain_rdata_text.specs.declared.error.Reason.{Reason}
 use Rattle.domain_rdata_text.specs.declared.error.Reason.TheVariants as reasons
-use Rattle.domain_rdata_text.specs.Addresses.{dotted, ipv4_text, read_ipv4}
+use Rattle.domain_rdata_text.specs.Addresses.{dotted, ipv4_text, with_number, read_ipv4}
 use Rattle.domain_rdata_text.specs.Ipv6.{ipv6_text, read_ipv6}
+use Rattle.domain_rdata_text.specs.Base32.{base32_text, base32_in_words, read_base32}
 use Rattle.domain_rdata_text.specs.Base64.{base64_text, base64_in_words, read_base64}
+use Rattle.domain_rdata_text.specs.Bitmaps.{bitmaps_of}
 use Rattle.domain_rdata_text.specs.Hex.{hex_text, counted_text, read_counted, octets_or_fault, hex_words, hex_in_words}
 use Rattle.domain_rdata_text.specs.Laws.{AreOctets}
 use Rattle.domain_rdata_text.specs.Names.{label_text, name_text, read_name}
 use Rattle.domain_rdata_text.specs.Numbers.{read_number}
-use Rattle.domain_rdata_text.specs.Rtypes.{type_text, read_type}
+use Rattle.domain_rdata_text.specs.Rtypes.{type_text, read_type, type_or_fault, types_words}
 use Rattle.domain_rdata_text.specs.Strings.{string_text, only_short, read_string, read_quoted}
-use Rattle.domain_rdata_text.specs.Texts.{val_words, has_text, takes_all, read_tag, so_far, with_octets, one, all, string_or_fault, strings_words, take_field}
+use Rattle.domain_rdata_text.specs.Texts.{val_words, has_text, takes_all, read_tag, so_far, with_octets, with_bitmaps, one, all, string_or_fault, strings_words, take_field}
 use Rattle.domain_rdata_text.specs.Times.{read_time}
 use Rattle.domain_rdata_text.specs.Values.{Val, form_of_val, counted, val_octets, is_tag}
-use Rattle.domain_rdata_text.specs.Values.Val.{number8, number16, number32, time, rtype, ipv4, ipv6, name, string, strings, tag, quoted, base16, base64, counted16, generic}
+use Rattle.domain_rdata_text.specs.Values.Val.{number8, number16, number32, time, rtype, ipv4, ipv6, name, string, optional_string, strings, tag, quoted, base16, base64, counted16, counted32, types, optional_types, generic}
 use Rattle.domain_rdata_text.specs.Words.{WordAt, word}
 use Rattle.domain_rdata_text.proofs.Colons.{ipv6_back, bare_ipv6, ipv6_some}
 use Rattle.domain_rdata_text.proofs.Digits.{hex_back, bare_hex}
 use Rattle.domain_rdata_text.proofs.Dotting.{ipv4_back, bare_ipv4}
 use Rattle.domain_rdata_text.proofs.Holding.{IsVal}
+use Rattle.domain_rdata_text.proofs.Quintets.{base32_back, bare_base32}
 use Rattle.domain_rdata_text.proofs.Reading.{name_back, string_back, quoted_back, number_back}
 use Rattle.domain_rdata_text.proofs.Sextets.{base64_back, bare_base64, base64_some}
 use Rattle.domain_rdata_text.proofs.Splitting.{IsWord, ends_before, placed, bare_one, bare_name, bare_string, bare_number, bare_letters}
 use Rattle.domain_rdata_text.proofs.Seconds.{time_back}
 use Rattle.domain_rdata_text.proofs.Strung.{IsString}
 use Rattle.domain_rdata_text.proofs.Types.{type_back, bare_type, type_some}
+use Rattle.domain_rdata_text.proofs.Windows.{AreTypes, no_bitmaps}
 
 -- ---- each value is of words
 label_some : (l rest : List ℕ) → 0 < length (label_text l ++ rest)
@@ -70,6 +74,14 @@ counted16_word : (s : List ℕ) → AreOctets s → IsWord (counted_text s)
 counted16_word [] b = (bare_one 45 refl, omega arith)
 counted16_word (c ∷ os) b = (bare_hex (c ∷ os) b, omega arith)
 
+base32_are_words : (os : List ℕ) → AreOctets os → AllByRecursion IsWord (base32_in_words os)
+base32_are_words [] b = tt
+base32_are_words (c ∷ os) b = ((bare_base32 (c ∷ os) b, omega arith), tt)
+
+types_are_words : (ts : List ℕ) → AreTypes ts → AllByRecursion IsWord (map type_text ts)
+types_are_words [] h = tt
+types_are_words (t ∷ ts) h = ((bare_type t h.0, type_some t), types_are_words ts h.1)
+
 base64_are_words : (os : List ℕ) → AreOctets os → AllByRecursion IsWord (base64_in_words os)
 base64_are_words [] b = tt
 base64_are_words (c ∷ os) b = ((bare_base64 (c ∷ os) b, base64_some c os b.0), tt)
@@ -84,12 +96,17 @@ are_words (ipv4 os) h = ((bare_ipv4 os h.1, ipv4_some os h.0 h.1), tt)
 are_words (ipv6 os) h = ((bare_ipv6 os h.1, ipv6_some os h.0 h.1), tt)
 are_words (name ls) h = ((bare_name ls h.1, name_some ls), tt)
 are_words (string s) h = (string_word s h.1, tt)
+are_words (optional_string None) h = tt
+are_words (optional_string (Some s)) h = (string_word s h.1, tt)
 are_words (strings ss) h = strings_are_words ss h
 are_words (tag s) h = (tag_word s h.1 h.2, tt)
 are_words (quoted s) h = (string_word s h, tt)
 are_words (base16 os) h = hex_are_words os h
 are_words (base64 os) h = base64_are_words os h
 are_words (counted16 s) h = (counted16_word s h.1, tt)
+are_words (counted32 s) h = base32_are_words s h.1
+are_words (types ts) h = types_are_words ts h.0
+are_words (optional_types ts) h = types_are_words ts h.0
 are_words (generic os) h = tt
 
 -- ---- which are taken
@@ -122,6 +139,17 @@ counted16_back (c ∷ os) h b =
 base64_taken : (c : ℕ) (cs : List ℕ) → AreOctets (c ∷ cs) → read_base64 (base64_text (c ∷ cs) ++ []) ≡ Some (c ∷ cs)
 base64_taken c cs b = ap read_base64 (append-nil (base64_text (c ∷ cs))) ∙ base64_back (c ∷ cs) b
 
+types_back : (n : ℕ) (ts : List ℕ) → AreTypes ts → (us : List ℕ) → types_words (Ok us) (placed n (map type_text ts)) ≡ Ok (us ++ ts)
+types_back n [] h us = ap Ok (sym (append-nil us))
+types_back n (t ∷ ts) h us =
+    let ws = placed n (map type_text ts) in
+    let at = ends_before n (map type_text ts) - length (type_text t) in
+    ap (λ (x : Option ℕ). types_words (type_or_fault at (with_number us x)) ws) (type_back t h.0)
+    ∙ (types_back n ts h.1 (us ++ t ∷ []) ∙ ap Ok (append_assoc us (t ∷ []) ts))
+
+types_taken : (n : ℕ) (ts : List ℕ) → AreTypes ts → (os : List ℕ) → all (with_bitmaps os (types_words (Ok []) (placed n (map type_text ts)))) ≡ Ok (so_far (os ++ bitmaps_of ts) [])
+types_taken n ts h os = ap (λ (x : Result (List ℕ) Fault). all (with_bitmaps os x)) (types_back n ts h [])
+
 pub hex_all_back : (n : ℕ) (os : List ℕ) → AreOctets os → hex_words (Ok []) (placed n (hex_in_words os)) ≡ Ok os
 hex_all_back n [] b = refl
 hex_all_back n (c ∷ cs) b = hex_taken n c cs b []
@@ -149,6 +177,13 @@ taken_back n len (ipv6 o) us h t l os =
 taken_back n len (name ls) us h t l os =
     one_back name reasons.Name os (word (ends_before n us - length (name_text ls)) (name_text ls)) (placed n us) (read_name (name_text ls)) ls (name_back ls h.0 h.1)
 taken_back n len (string s) us h t l os =
+    one_back string reasons.CharString os (word (ends_before n us - length (string_text s)) (string_text s)) (placed n us) (read_string (string_text s)) s (string_back s h.0 h.1)
+taken_back n len (optional_string None) us h t l os =
+    let none = l refl in
+    ap (λ (y : List (List ℕ)). take_field len (form_of_val (optional_string None)) os (placed n y)) none
+    ∙ (ap (λ (y : List ℕ). Ok (so_far y [])) (sym (append-nil os))
+    ∙ ap (λ (y : List (List ℕ)). Ok (so_far (os ++ []) (placed n y))) (sym none))
+taken_back n len (optional_string (Some s)) us h t l os =
     one_back string reasons.CharString os (word (ends_before n us - length (string_text s)) (string_text s)) (placed n us) (read_string (string_text s)) s (string_back s h.0 h.1)
 taken_back n len (strings []) us h t l os = absurd (false≢true t)
 taken_back n len (strings (s ∷ ss)) us h t l os =
@@ -178,4 +213,26 @@ taken_back n len (base64 (c ∷ cs)) us h t l os =
     ∙ ap (λ (x : List (List ℕ)). Ok (so_far (os ++ c ∷ cs) (placed n x))) (sym none))
 taken_back n len (counted16 s) us h t l os =
     one_back counted16 reasons.CountedBase16 os (word (ends_before n us - length (counted_text s)) (counted_text s)) (placed n us) (read_counted (counted_text s)) s (counted16_back s h.0 h.1)
+taken_back n len (counted32 []) us h t l os = absurd (false≢true t)
+taken_back n len (counted32 (c ∷ cs)) us h t l os =
+    let text = base32_text (c ∷ cs) in
+    one_back counted32 reasons.CountedBase32 os (word (ends_before n us - length text) text) (placed n us) (read_base32 text) (c ∷ cs) (base32_back c cs h.0 h.1)
+taken_back n len (types []) us h t l os = absurd (false≢true t)
+taken_back n len (types (x ∷ ts)) us h t l os =
+    let none = l refl in
+    let same = no_others (map type_text (x ∷ ts)) us none in
+    ap (λ (y : List (List ℕ)). take_field len (form_of_val (types (x ∷ ts))) os (placed n y)) same
+    ∙ (types_taken n (x ∷ ts) h.0 os
+    ∙ ap (λ (y : List (List ℕ)). Ok (so_far (os ++ bitmaps_of (x ∷ ts)) (placed n y))) (sym none))
+taken_back n len (optional_types []) us h t l os =
+    let none = l refl in
+    ap (λ (y : List (List ℕ)). take_field len (form_of_val (optional_types [])) os (placed n y)) none
+    ∙ (ap (λ (y : List ℕ). Ok (so_far y [])) (sym (append-nil os) ∙ ap (λ (y : List ℕ). os ++ y) (sym no_bitmaps))
+    ∙ ap (λ (y : List (List ℕ)). Ok (so_far (os ++ bitmaps_of []) (placed n y))) (sym none))
+taken_back n len (optional_types (x ∷ ts)) us h t l os =
+    let none = l refl in
+    let same = no_others (map type_text (x ∷ ts)) us none in
+    ap (λ (y : List (List ℕ)). take_field len (form_of_val (optional_types (x ∷ ts))) os (placed n y)) same
+    ∙ (types_taken n (x ∷ ts) h.0 os
+    ∙ ap (λ (y : List (List ℕ)). Ok (so_far (os ++ bitmaps_of (x ∷ ts)) (placed n y))) (sym none))
 taken_back n len (generic o) us h t l os = absurd (false≢true t)

@@ -10,6 +10,8 @@ pub mod Addresses
 pub mod Hex
 pub mod Ipv6
 pub mod Base64
+pub mod Base32
+pub mod Bitmaps
 pub mod Forms
 pub mod Values
 pub mod Texts

@@ -11,19 +11,26 @@ use Rattle.domain_rdata_text.specs.declared.error.Reason.TheVariants as reasons
 use Rattle.domain_rdata_text.specs.declared.form.TextForm.{TextForm}
 use Rattle.domain_rdata_text.specs.declared.form.TextForm.TheVariants as forms
 use Rattle.domain_rdata_text.specs.Addresses.{ipv4_text, read_ipv4}
+use Rattle.domain_rdata_text.specs.Base32.{base32_in_words, read_base32}
 use Rattle.domain_rdata_text.specs.Base64.{base64_in_words, read_base64, together}
-use Rattle.domain_rdata_text.specs.Forms.{text_form}
+use Rattle.domain_rdata_text.specs.Bitmaps.{bitmaps_of}
+use Rattle.domain_rdata_text.specs.Forms.{text_form, may_be_absent}
 use Rattle.domain_rdata_text.specs.Ipv6.{ipv6_text, read_ipv6}
 use Rattle.domain_rdata_text.specs.Hex.{counted_text, read_counted, hex_in_words, hex_words, generic_words, is_mark_word, read_generic}
 use Rattle.domain_rdata_text.specs.Names.{name_text, read_name}
 use Rattle.domain_rdata_text.specs.Numbers.{read_number}
 use Rattle.domain_rdata_text.specs.Outcome.{fault}
-use Rattle.domain_rdata_text.specs.Rtypes.{type_text, read_type}
+use Rattle.domain_rdata_text.specs.Rtypes.{type_text, read_type, types_words}
 use Rattle.domain_rdata_text.specs.Strings.{string_text, read_string, read_quoted}
 use Rattle.domain_rdata_text.specs.Times.{read_time}
 use Rattle.domain_rdata_text.specs.Values.{Val, val_octets, vals_octets, is_tag, ValuesAt}
-use Rattle.domain_rdata_text.specs.Values.Val.{number8, number16, number32, time, rtype, ipv4, ipv6, name, string, strings, tag, quoted, base16, base64, counted16, generic}
+use Rattle.domain_rdata_text.specs.Values.Val.{number8, number16, number32, time, rtype, ipv4, ipv6, name, string, optional_string, strings, tag, quoted, base16, base64, counted16, counted32, types, optional_types, generic}
 use Rattle.domain_rdata_text.specs.Words.{WordAt, split, joined}
+
+-- the words of a string, where there is one
+abbrev pub optional_words : Option (List ℕ) → List (List ℕ)
+optional_words None = []
+optional_words (Some s) = string_text s ∷ []
 
 -- the words of a field
 abbrev pub val_words : Val → List (List ℕ)
@@ -36,12 +43,16 @@ val_words (ipv4 os) = ipv4_text os ∷ []
 val_words (ipv6 os) = ipv6_text os ∷ []
 val_words (name ls) = name_text ls ∷ []
 val_words (string s) = string_text s ∷ []
+val_words (optional_string o) = optional_words o
 val_words (strings ss) = map string_text ss
 val_words (tag s) = s ∷ []
 val_words (quoted s) = string_text s ∷ []
 val_words (base16 os) = hex_in_words os
 val_words (base64 os) = base64_in_words os
 val_words (counted16 os) = counted_text os ∷ []
+val_words (counted32 os) = base32_in_words os
+val_words (types ts) = map type_text ts
+val_words (optional_types ts) = map type_text ts
 val_words (generic os) = []
 
 -- whether a list has a member
@@ -53,7 +64,7 @@ abbrev pub is_nil : {A : Type 0} → List A → Bool
 is_nil [] = true
 is_nil (x ∷ xs) = false
 
--- whether the field has a text of its own, which isn't empty
+-- whether the field has a text of its own, which isn't empty unless the field may be
 abbrev pub has_text : Val → Bool
 has_text (number8 n) = true
 has_text (number16 n) = true
@@ -64,15 +75,19 @@ has_text (ipv4 os) = true
 has_text (ipv6 os) = true
 has_text (name ls) = true
 has_text (string s) = true
+has_text (optional_string o) = true
 has_text (strings ss) = is_some_list ss
 has_text (tag s) = true
 has_text (quoted s) = true
 has_text (base16 os) = is_some_list os
 has_text (base64 os) = is_some_list os
 has_text (counted16 os) = true
+has_text (counted32 os) = is_some_list os
+has_text (types ts) = is_some_list ts
+has_text (optional_types ts) = true
 has_text (generic os) = false
 
--- whether it takes all words that are left
+-- whether it takes all words that are left, so that no field follows
 abbrev pub takes_all : Val → Bool
 takes_all (number8 n) = false
 takes_all (number16 n) = false
@@ -83,12 +98,16 @@ takes_all (ipv4 os) = false
 takes_all (ipv6 os) = false
 takes_all (name ls) = false
 takes_all (string s) = false
+takes_all (optional_string o) = true
 takes_all (strings ss) = true
 takes_all (tag s) = false
 takes_all (quoted s) = false
 takes_all (base16 os) = true
 takes_all (base64 os) = true
 takes_all (counted16 os) = false
+takes_all (counted32 os) = false
+takes_all (types ts) = true
+takes_all (optional_types ts) = true
 takes_all (generic os) = false
 
 -- Whether data is written field by field: each has a text, and none but the last takes all words that are left.
@@ -133,6 +152,11 @@ abbrev pub all : Result (List ℕ) Fault → Result SoFar Fault
 all (Err why) = Err why
 all (Ok os) = Ok (so_far os [])
 
+-- octets, and the bitmaps of types that were read
+abbrev pub with_bitmaps : List ℕ → Result (List ℕ) Fault → Result (List ℕ) Fault
+with_bitmaps os (Err why) = Err why
+with_bitmaps os (Ok ts) = Ok (os ++ bitmaps_of ts)
+
 -- octets that were read of the word at an offset, or the fault that it is no character string
 abbrev pub string_or_fault : ℕ → Option (List ℕ) → Result (List ℕ) Fault
 string_or_fault offset None = Err (fault offset reasons.CharString)
@@ -155,17 +179,21 @@ take_words forms.Ipv4 os w ws = one reasons.Ipv4 w ws (with_octets ipv4 os (read
 take_words forms.Ipv6 os w ws = one reasons.Ipv6 w ws (with_octets ipv6 os (read_ipv6 w.octets))
 take_words forms.Name os w ws = one reasons.Name w ws (with_octets name os (read_name w.octets))
 take_words forms.CharString os w ws = one reasons.CharString w ws (with_octets string os (read_string w.octets))
+take_words forms.OptionalString os w ws = one reasons.CharString w ws (with_octets string os (read_string w.octets))
 take_words forms.CharStrings os w ws = all (strings_words (Ok os) (w ∷ ws))
 take_words forms.Tag os w ws = one reasons.Tag w ws (with_octets tag os (read_tag w.octets))
 take_words forms.QuotedText os w ws = one reasons.QuotedText w ws (with_octets quoted os (read_quoted w.octets))
 take_words forms.Base16 os w ws = all (hex_words (Ok os) (w ∷ ws))
 take_words forms.Base64 os w ws = one reasons.Base64 w [] (with_octets base64 os (read_base64 (together (w ∷ ws))))
 take_words forms.CountedBase16 os w ws = one reasons.CountedBase16 w ws (with_octets counted16 os (read_counted w.octets))
+take_words forms.CountedBase32 os w ws = one reasons.CountedBase32 w ws (with_octets counted32 os (read_base32 w.octets))
+take_words forms.Types os w ws = all (with_bitmaps os (types_words (Ok []) (w ∷ ws)))
+take_words forms.OptionalTypes os w ws = all (with_bitmaps os (types_words (Ok []) (w ∷ ws)))
 take_words forms.Generic os w ws = Err (fault w.begin reasons.OnlyGeneric)
 
--- the same, in a text of n octets, where a word may be missing
+-- the same, in a text of n octets, where a word may be missing, as it may of a field that is absent
 abbrev pub take_field : ℕ → TextForm → List ℕ → List WordAt → Result SoFar Fault
-take_field n form os [] = Err (fault n reasons.MissingWord)
+take_field n form os [] = if may_be_absent form then Ok (so_far os []) else Err (fault n reasons.MissingWord)
 take_field n form os (w ∷ ws) = take_words form os w ws
 
 -- the octets that were read, where no word is left

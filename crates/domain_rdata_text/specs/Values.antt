@@ -1,5 +1,5 @@
 -- What fields hold.
-use Rattle.std.specs.Prelude.{◌≡◌, ◌⊎◌, ℕ, ◌+◌, ◌*◌, ◌-◌, ◌/◌, ◌%◌, ◌<◌, ◌==◌, Bool, false, if◌then◌else◌, List, [], ◌∷◌, ◌++◌, length, map, slice_range, Option, Some, None}
+use Rattle.std.specs.Prelude.{◌≡◌, ◌⊎◌, ℕ, ◌+◌, ◌*◌, ◌-◌, ◌/◌, ◌%◌, ◌<◌, ◌==◌, Bool, false, if◌then◌else◌, List, [], ◌∷◌, ◌++◌, length, map, slice_range, Option, Some, None, option_map}
 use Rattle.std.specs.Char.{is_ascii_alphanumeric}
 use Rattle.std.specs.List.{flat_map, list_all}
 use Rattle.domain_label.specs.Wire.{wire, Root}
@@ -15,11 +15,13 @@ use Rattle.domain_rdata_text.specs.declared.value.Open.{Open}
 use Rattle.domain_rdata_text.specs.declared.value.Open.TheVariants.{Between, Inside}
 use Rattle.domain_rdata_text.specs.declared.value.Value.{Value}
 use Rattle.domain_rdata_text.specs.declared.value.Value.TheVariants as held
+use Rattle.domain_rdata_text.specs.Bitmaps.{bitmaps_of, types_of_bitmaps}
 use Rattle.domain_rdata_text.specs.Forms.{text_form}
 use Rattle.domain_rdata_text.specs.Words.{lists}
 
--- What a field holds: a number; a time; a type; the octets of an address; a name by its labels before the root; the
--- octets of a string, of several, of a tag or of what is between quotes; or octets that are all of the field.
+-- What a field holds: a number, a time, one type or several, the octets of an address, or a name by its labels before
+-- the root. It may also be the octets of a string, of several, of a tag, or of what is between quotes. Octets without
+-- such a meaning are all of the field.
 pub data Val : Type 0 where
   number8 : ℕ → Val
   number16 : ℕ → Val
@@ -30,12 +32,16 @@ pub data Val : Type 0 where
   ipv6 : List ℕ → Val
   name : List (List ℕ) → Val
   string : List ℕ → Val
+  optional_string : Option (List ℕ) → Val
   strings : List (List ℕ) → Val
   tag : List ℕ → Val
   quoted : List ℕ → Val
   base16 : List ℕ → Val
   base64 : List ℕ → Val
   counted16 : List ℕ → Val
+  counted32 : List ℕ → Val
+  types : List ℕ → Val
+  optional_types : List ℕ → Val
   generic : List ℕ → Val
 
 -- what a value of the program is
@@ -49,12 +55,16 @@ val_of (held.Ipv4 os) = ipv4 os.items
 val_of (held.Ipv6 os) = ipv6 os.items
 val_of (held.Name ls) = name (lists ls.items)
 val_of (held.CharString s) = string s.items
+val_of (held.OptionalString o) = optional_string (option_map (λ s. s.items) o)
 val_of (held.CharStrings ss) = strings (lists ss.items)
 val_of (held.Tag s) = tag s.items
 val_of (held.QuotedText s) = quoted s.items
 val_of (held.Base16 os) = base16 os.items
 val_of (held.Base64 os) = base64 os.items
 val_of (held.CountedBase16 os) = counted16 os.items
+val_of (held.CountedBase32 os) = counted32 os.items
+val_of (held.Types ts) = types ts.items
+val_of (held.OptionalTypes ts) = optional_types ts.items
 val_of (held.Generic os) = generic os.items
 
 -- what several fields of the program hold
@@ -72,17 +82,26 @@ form_of_val (ipv4 os) = forms.Ipv4
 form_of_val (ipv6 os) = forms.Ipv6
 form_of_val (name ls) = forms.Name
 form_of_val (string s) = forms.CharString
+form_of_val (optional_string o) = forms.OptionalString
 form_of_val (strings ss) = forms.CharStrings
 form_of_val (tag s) = forms.Tag
 form_of_val (quoted s) = forms.QuotedText
 form_of_val (base16 os) = forms.Base16
 form_of_val (base64 os) = forms.Base64
 form_of_val (counted16 os) = forms.CountedBase16
+form_of_val (counted32 os) = forms.CountedBase32
+form_of_val (types ts) = forms.Types
+form_of_val (optional_types ts) = forms.OptionalTypes
 form_of_val (generic os) = forms.Generic
 
 -- octets behind one that tells how many they are (RFC 1035, 3.3)
 abbrev pub counted : List ℕ → List ℕ
 counted s = length s ∷ s
+
+-- the octets of a string, where there is one
+abbrev pub optional_octets : Option (List ℕ) → List ℕ
+optional_octets None = []
+optional_octets (Some s) = counted s
 
 -- the octets of the field, where its name isn't compressed
 abbrev pub val_octets : Val → List ℕ
@@ -95,12 +114,16 @@ val_octets (ipv4 os) = os
 val_octets (ipv6 os) = os
 val_octets (name ls) = wire (ls ++ Root)
 val_octets (string s) = counted s
+val_octets (optional_string o) = optional_octets o
 val_octets (strings ss) = flat_map counted ss
 val_octets (tag s) = counted s
 val_octets (quoted s) = s
 val_octets (base16 os) = os
 val_octets (base64 os) = os
 val_octets (counted16 os) = counted os
+val_octets (counted32 os) = counted os
+val_octets (types ts) = bitmaps_of ts
+val_octets (optional_types ts) = bitmaps_of ts
 val_octets (generic os) = os
 
 -- the octets of fields
@@ -152,10 +175,28 @@ abbrev pub string_in : List ℕ → Val
 string_in [] = generic []
 string_in (n ∷ s) = if length s == n then string s else generic (n ∷ s)
 
+-- a character string, or none
+abbrev pub optional_string_in : List ℕ → Val
+optional_string_in [] = optional_string None
+optional_string_in (n ∷ s) = if length s == n then optional_string (Some s) else generic (n ∷ s)
+
 -- octets, where the first one says how many follow
 abbrev pub counted16_in : List ℕ → Val
 counted16_in [] = generic []
 counted16_in (n ∷ s) = if length s == n then counted16 s else generic (n ∷ s)
+
+abbrev pub counted32_in : List ℕ → Val
+counted32_in [] = generic []
+counted32_in (n ∷ s) = if length s == n then counted32 s else generic (n ∷ s)
+
+-- the types of bitmaps, or else octets that are no types' bitmaps
+abbrev pub types_or : List ℕ → Option (List ℕ) → Val
+types_or os None = generic os
+types_or os (Some ts) = types ts
+
+abbrev pub optional_types_or : List ℕ → Option (List ℕ) → Val
+optional_types_or os None = generic os
+optional_types_or os (Some ts) = optional_types ts
 
 -- Character strings after strings. Between them an octet tells how many octets the next has; inside of one some were
 -- read, and k are to come.
@@ -195,12 +236,16 @@ val_in forms.Ipv4 os = ipv4_in os
 val_in forms.Ipv6 os = ipv6_in os
 val_in forms.Name os = generic os
 val_in forms.CharString os = string_in os
+val_in forms.OptionalString os = optional_string_in os
 val_in forms.CharStrings os = strings_or os (strings_in [] [] Between os)
 val_in forms.Tag os = tag_in os
 val_in forms.QuotedText os = quoted os
 val_in forms.Base16 os = base16 os
 val_in forms.Base64 os = base64 os
 val_in forms.CountedBase16 os = counted16_in os
+val_in forms.CountedBase32 os = counted32_in os
+val_in forms.Types os = types_or os (types_of_bitmaps os)
+val_in forms.OptionalTypes os = optional_types_or os (types_of_bitmaps os)
 val_in forms.Generic os = generic os
 
 -- The field of this kind at p, which ends before e, holds this: a name, or what its octets say.

@@ -40,6 +40,8 @@ pub enum Reason {
     Base64,
     /// The word isn't a hyphen, or hexadecimal digits of at most 255 octets (RFC 5155, 3.3).
     CountedBase16,
+    /// The word isn't base32hex digits of 1 to 255 octets (RFC 5155, 3.3).
+    CountedBase32,
     /// A field that has no form of its own: data of its type is read after `\#` alone.
     OnlyGeneric,
     /// After `\#` there aren't as many octets as this number says.

@@ -1,6 +1,6 @@
 //! How fields are written as text.
 ghost use Rattle.std.specs.Prelude.{◌≡◌};
-ghost use Rattle.domain_rdata_text.specs.Forms.{text_form};
+ghost use Rattle.domain_rdata_text.specs.Forms.{text_form, may_be_absent};
 
 use domain_descriptor::FieldKind;
 
@@ -26,6 +26,8 @@ pub enum TextForm {
     Name,
     /// A character string between quotes.
     CharString,
+    /// The same, or nothing (RFC 1183, 3.2).
+    OptionalString,
     /// Character strings, each between quotes.
     CharStrings,
     /// Letters and digits (RFC 8659, 4.1).
@@ -38,6 +40,12 @@ pub enum TextForm {
     Base64,
     /// Octets in hexadecimal digits, or a hyphen where there is none (RFC 5155, 3.3).
     CountedBase16,
+    /// Octets in base32hex without padding (RFC 5155, 3.3).
+    CountedBase32,
+    /// The mnemonics of types, in ascending order of their numbers (RFC 4034, 4.2).
+    Types,
+    /// The same, or nothing (RFC 5155, 3.3).
+    OptionalTypes,
     /// No form of its own.
     Generic,
 }
@@ -60,18 +68,46 @@ pub fn text_form(kind: FieldKind) -> TextForm
         FieldKind::Ipv6 => TextForm::Ipv6,
         FieldKind::Name => TextForm::Name,
         FieldKind::CharString => TextForm::CharString,
-        FieldKind::OptionalString => TextForm::Generic,
+        FieldKind::OptionalString => TextForm::OptionalString,
         FieldKind::CharStrings => TextForm::CharStrings,
         FieldKind::Tag => TextForm::Tag,
         FieldKind::QuotedText => TextForm::QuotedText,
         FieldKind::CountedBase16 => TextForm::CountedBase16,
-        FieldKind::CountedBase32 => TextForm::Generic,
+        FieldKind::CountedBase32 => TextForm::CountedBase32,
         FieldKind::CountedBase64 => TextForm::Generic,
-        FieldKind::TypeBitmaps => TextForm::Generic,
-        FieldKind::OptionalTypeBitmaps => TextForm::Generic,
+        FieldKind::TypeBitmaps => TextForm::Types,
+        FieldKind::OptionalTypeBitmaps => TextForm::OptionalTypes,
         FieldKind::SvcParams => TextForm::Generic,
         FieldKind::Base16 => TextForm::Base16,
         FieldKind::Base64 => TextForm::Base64,
         FieldKind::Octets => TextForm::Generic,
+    }
+}
+
+/// Whether a field that is written so may have no word.
+pub(crate) fn may_be_absent(form: TextForm) -> bool
+    ensures { result ≡ may_be_absent form }
+{
+    match form {
+        TextForm::OptionalTypes => true,
+        TextForm::Number8 => false,
+        TextForm::Number16 => false,
+        TextForm::Number32 => false,
+        TextForm::Time => false,
+        TextForm::Rtype => false,
+        TextForm::Ipv4 => false,
+        TextForm::Ipv6 => false,
+        TextForm::Name => false,
+        TextForm::CharString => false,
+        TextForm::OptionalString => true,
+        TextForm::CharStrings => false,
+        TextForm::Tag => false,
+        TextForm::QuotedText => false,
+        TextForm::Base16 => false,
+        TextForm::Base64 => false,
+        TextForm::CountedBase16 => false,
+        TextForm::CountedBase32 => false,
+        TextForm::Types => false,
+        TextForm::Generic => false,
     }
 }

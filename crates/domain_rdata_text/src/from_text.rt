@@ -1,35 +1,41 @@
 //! Record data that a text says (RFC 1035, 5.1; RFC 3597, 5).
 ghost use Rattle.std.specs.Prelude.{◌≡◌, ◌≤◌, ◌++◌, ◌∷◌, [], length, Ok, Err, Some, None, IfOk, OnOk, IfErr};
 ghost use Rattle.domain_descriptor.specs.Table.{known_fields};
-ghost use Rattle.domain_rdata_text.specs.Forms.{text_form};
+ghost use Rattle.domain_rdata_text.specs.Forms.{text_form, may_be_absent};
 ghost use Rattle.domain_rdata_text.specs.Outcome.{fault, IfFault, IfRefused, RefusesWith, AppendedTo};
 ghost use Rattle.domain_rdata_text.specs.Addresses.{read_ipv4};
+ghost use Rattle.domain_rdata_text.specs.Base32.{read_base32};
 ghost use Rattle.domain_rdata_text.specs.Base64.{read_base64, together};
+ghost use Rattle.domain_rdata_text.specs.Bitmaps.{bitmaps_of};
 ghost use Rattle.domain_rdata_text.specs.Hex.{read_generic, read_counted};
 ghost use Rattle.domain_rdata_text.specs.Ipv6.{read_ipv6};
 ghost use Rattle.domain_rdata_text.specs.Numbers.{read_number};
-ghost use Rattle.domain_rdata_text.specs.Rtypes.{read_type};
+ghost use Rattle.domain_rdata_text.specs.Rtypes.{read_type, types_words};
 ghost use Rattle.domain_rdata_text.specs.Strings.{read_string, read_quoted};
 ghost use Rattle.domain_rdata_text.specs.Times.{read_time};
-ghost use Rattle.domain_rdata_text.specs.Texts.{read_tag, with_octets, strings_words, take_words, take_field, so_far, read_fields, fields_octets, text_octets};
+ghost use Rattle.domain_rdata_text.specs.Texts.{read_tag, with_octets, with_bitmaps, strings_words, take_words, take_field};
+ghost use Rattle.domain_rdata_text.specs.Texts.{so_far, read_fields, fields_octets, text_octets};
 ghost use Rattle.domain_rdata_text.specs.Texts.{starts_mark, mark_offset, IsGenericText, IsPlain, IsNotPlain, IsGenericFault, IsReadFault};
 ghost use Rattle.domain_rdata_text.specs.declared.error.Reason.TheVariants.{NotData};
 ghost use Rattle.domain_rdata_text.specs.Values.Val.{number8 as held_number8, number16 as held_number16, number32 as held_number32};
 ghost use Rattle.domain_rdata_text.specs.Values.Val.{ipv4 as held_ipv4, ipv6 as held_ipv6, string as held_string, tag as held_tag, quoted as held_quoted};
-ghost use Rattle.domain_rdata_text.specs.Values.Val.{base64 as held_base64, counted16 as held_counted16, rtype as held_rtype, time as held_time};
+ghost use Rattle.domain_rdata_text.specs.Values.Val.{base64 as held_base64, counted16 as held_counted16, counted32 as held_counted32};
+ghost use Rattle.domain_rdata_text.specs.Values.Val.{rtype as held_rtype, time as held_time};
 ghost use Rattle.domain_rdata_text.specs.Values.{counted};
 ghost use Rattle.domain_rdata_text.specs.Words.{word_of, words_of, lists};
 
 use crate::address::ipv4_of;
+use crate::base32::base32_of;
 use crate::base64_text::base64_of;
+use crate::bitmaps::append_bitmaps;
 use crate::error::{Fault, ReadError, Reason, refused};
-use crate::form::{TextForm, text_form};
+use crate::form::{TextForm, may_be_absent, text_form};
 use crate::hex::{counted_of, generic_of, is_mark, push_hex_words};
 use crate::ipv6::ipv6_of;
 use crate::name::push_name;
 use crate::number::number_of;
 use crate::push::{push, push_all};
-use crate::rtype::type_of;
+use crate::rtype::{type_of, types_of_words};
 use crate::string::{quoted_of, string_of};
 use crate::time::time_of;
 use crate::value::{are_of_tag, plain_data};
@@ -226,6 +232,25 @@ fn push_counted16(
     Ok(())
 }
 
+/// Appends the octets that a word is in base32hex, with their number before them. It is refused with the fault that is
+/// passed.
+fn push_counted32(
+    alloc: Global,
+    refusal: Fault,
+    word: &[u8],
+    made: &mut Vec<u8>,
+) -> Result<(), ReadError>
+    ensures ok { OnOk result
+        (with_octets held_counted32 made.old.items (read_base32 word.now)
+        ≡ Some made.new.items) }
+    ensures err { IfRefused result refusal (read_base32 word.now ≡ None) }
+    ensures given { RefusesWith result refusal }
+{
+    let octets = base32_of(alloc, refusal, word)?;
+    push_counted(octets.as_slice(), made)?;
+    Ok(())
+}
+
 /// Appends the octets that words in base64 are of, as one text. They are refused with the fault that is passed.
 fn push_base64(
     alloc: Global,
@@ -260,6 +285,21 @@ fn push_strings(alloc: Global, words: &[Word], made: &mut Vec<u8>) -> Result<(),
     Ok(())
 }
 
+/// Appends the bitmaps of the types that words are.
+fn push_types(alloc: Global, words: &[Word], made: &mut Vec<u8>) -> Result<(), ReadError>
+    ensures ok { OnOk result
+        (with_bitmaps made.old.items (types_words (Ok []) (words_of words.now))
+        ≡ Ok made.new.items) }
+    ensures err { IfFault result
+        (λ f. with_bitmaps made.old.items (types_words (Ok []) (words_of words.now)) ≡ Err f) }
+{
+    let types = types_of_words(alloc, words)?;
+    match append_bitmaps(types.as_slice(), made) {
+        Ok(()) => Ok(()),
+        Err(_) => Err(ReadError::Memory),
+    }
+}
+
 /// The fault of a word.
 fn refusal_of(word: &Word, reason: Reason) -> Fault
     ensures { result ≡ fault (word_of word.now).begin reason }
@@ -286,6 +326,9 @@ fn take_field<'w>(
         (λ f. take_field len form made.old.items (words_of words.now) ≡ Err f) }
 {
     let [word, after @ ..] = words else {
+        if may_be_absent(form) {
+            return Ok(&[]);
+        }
         return Err(refused(len, Reason::MissingWord));
     };
     let octets = word.octets.as_slice();
@@ -326,6 +369,10 @@ fn take_field<'w>(
             push_string(alloc, refusal_of(word, Reason::CharString), octets, made)?;
             Ok(after)
         }
+        TextForm::OptionalString => {
+            push_string(alloc, refusal_of(word, Reason::CharString), octets, made)?;
+            Ok(after)
+        }
         TextForm::CharStrings => {
             push_strings(alloc, words, made)?;
             Ok(&[])
@@ -350,6 +397,19 @@ fn take_field<'w>(
             let refusal = refusal_of(word, Reason::CountedBase16);
             push_counted16(alloc, refusal, octets, made)?;
             Ok(after)
+        }
+        TextForm::CountedBase32 => {
+            let refusal = refusal_of(word, Reason::CountedBase32);
+            push_counted32(alloc, refusal, octets, made)?;
+            Ok(after)
+        }
+        TextForm::Types => {
+            push_types(alloc, words, made)?;
+            Ok(&[])
+        }
+        TextForm::OptionalTypes => {
+            push_types(alloc, words, made)?;
+            Ok(&[])
         }
         TextForm::Generic => Err(refused(word.begin, Reason::OnlyGeneric)),
     }
@@ -477,8 +537,8 @@ fn read_generic(
 /// `Refused` with a fault and its offset, of which [`place_of`](crate::place_of) tells line and column: what
 /// [`split_words`](crate::split_words) refuses, wherever it is, or else the first from the left of these:
 /// - `MissingWord` and `ExtraWord` where there are fewer words than fields, or more;
-/// - `Number`, `Time`, `Rtype`, `Ipv4`, `Ipv6`, `Name`, `CharString`, `Tag`, `QuotedText`, `Base16`, `Base64` or
-///   `CountedBase16` at a word that isn't such a field;
+/// - `Number`, `Time`, `Rtype`, `Ipv4`, `Ipv6`, `Name`, `CharString`, `Tag`, `QuotedText`, `Base16`, `Base64`,
+///   `CountedBase16` or `CountedBase32` at a word that isn't such a field;
 /// - `OnlyGeneric` at a word of a field that has no form of its own ([`TextForm`](crate::TextForm));
 /// - `LongData` where the data has more than 65,535 octets;
 /// - after `\#` `OctetCount` at the number, where there are more octets or fewer, and `NotData` at `\#`, where they

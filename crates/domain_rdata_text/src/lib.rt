@@ -5,7 +5,9 @@
 #![tactic(auto)]
 
 mod address;
+mod base32;
 mod base64_text;
+mod bitmaps;
 pub mod error;
 pub mod form;
 pub mod from_text;

@@ -1,14 +1,15 @@
 //! Types of records as text (RFC 1035, 3.2.2; RFC 3597, 5).
-ghost use Rattle.std.specs.Prelude.{◌≡◌, ◌<◌, Some, None, [], ◌∷◌, IfOk, OnOk};
+ghost use Rattle.std.specs.Prelude.{◌≡◌, ◌<◌, ◌++◌, Some, None, Ok, Err, [], ◌∷◌, map, IfOk, OnOk, IfErr};
 ghost use Rattle.domain_header.specs.Mnemonics.{rows_of};
 ghost use Rattle.domain_label.specs.Lowercase.{eq_ignoring_case};
-ghost use Rattle.domain_rdata_text.specs.Outcome.{IfRefused, RefusesWith, AppendedTo};
-ghost use Rattle.domain_rdata_text.specs.Rtypes.{type_text, number_of_word, number_after_type, read_type};
-ghost use Rattle.domain_rdata_text.specs.Words.{lists, AppendedWords};
+ghost use Rattle.domain_rdata_text.specs.Outcome.{IfFault, IfRefused, RefusesWith, AppendedTo};
+ghost use Rattle.domain_rdata_text.specs.Rtypes.{type_text, number_of_word, number_after_type, read_type, types_words};
+ghost use Rattle.domain_rdata_text.specs.Words.{lists, words_of, AppendedWords};
 
-use crate::error::{Fault, ReadError};
+use crate::error::{Fault, ReadError, Reason};
 use crate::number::{append_number, number_of};
 use crate::push::{append_all, append_word};
+use crate::words::Word;
 use domain_header::Mnemonic;
 use domain_header::mnemonic::mnemonic_word;
 use domain_header::rtypes::rtypes;
@@ -37,6 +38,23 @@ pub(crate) fn append_type_word(
     let mut word = Vec::new(alloc);
     append_type(alloc, number, &mut word)?;
     append_word(word, words)?;
+    Ok(())
+}
+
+/// Appends the words that types are.
+pub(crate) fn append_type_words(
+    alloc: Global,
+    types: &[u16],
+    words: &mut Vec<Vec<u8>>,
+) -> Result<(), AllocError>
+    ensures { OnOk result
+        (AppendedWords words.old.items (map type_text types.now) words.new.items) }
+{
+    let mut rest = types;
+    'rtype: while let [rtype, after @ ..] = rest {
+        append_type_word(alloc, *rtype, words)?;
+        rest = after;
+    }
     Ok(())
 }
 
@@ -89,4 +107,34 @@ pub(crate) fn type_of(refusal: Fault, word: &[u8]) -> Result<u16, ReadError>
         return Ok(number);
     }
     number_behind_type(refusal, word)
+}
+
+/// Appends a type that was read.
+fn push_type(rtype: u16, types: &mut Vec<u16>) -> Result<(), ReadError>
+    ensures ok { OnOk result (AppendedTo types.old.items (rtype ∷ []) types.new.items) }
+    ensures err { IfErr result (λ e. e ≡ ReadError.Memory) }
+{
+    match types.push(rtype) {
+        Ok(()) => Ok(()),
+        Err(_) => Err(ReadError::Memory),
+    }
+}
+
+/// The types that words are.
+pub(crate) fn types_of_words(alloc: Global, words: &[Word]) -> Result<Vec<u16>, ReadError>
+    ensures ok { IfOk result (λ made. types_words (Ok []) (words_of words.now) ≡ Ok made.items) }
+    ensures err { IfFault result (λ f. types_words (Ok []) (words_of words.now) ≡ Err f) }
+{
+    let mut types = Vec::new(alloc);
+    let mut rest = words;
+    'word: while let [word, after @ ..] = rest {
+        let refusal = Fault {
+            at: word.begin,
+            reason: Reason::Rtype,
+        };
+        let rtype = type_of(refusal, word.octets.as_slice())?;
+        push_type(rtype, &mut types)?;
+        rest = after;
+    }
+    Ok(types)
 }

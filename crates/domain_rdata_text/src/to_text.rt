@@ -7,13 +7,14 @@ ghost use Rattle.domain_rdata_text.specs.Values.{Val, val_of, vals_of, vals_octe
 ghost use Rattle.domain_rdata_text.specs.Words.{lists, AppendedWords};
 
 use crate::address::append_ipv4_word;
+use crate::base32::append_base32_words;
 use crate::base64_text::append_base64_words;
 use crate::hex::{append_counted_word, append_hex_words, generic_words_of};
 use crate::ipv6::append_ipv6_word;
 use crate::name::append_name_word;
 use crate::number::append_number_word;
 use crate::push::{append_all, append_copy};
-use crate::rtype::append_type_word;
+use crate::rtype::{append_type_word, append_type_words};
 use crate::string::{append_string_word, append_string_words};
 use crate::value::{PlainData, Value, plain_data};
 use crate::words::append_joined;
@@ -35,12 +36,17 @@ fn append_words(alloc: Global, value: &Value, words: &mut Vec<Vec<u8>>) -> Resul
         Value::Ipv6(octets) => append_ipv6_word(alloc, octets.as_slice(), words),
         Value::Name(labels) => append_name_word(alloc, labels.as_slice(), words),
         Value::CharString(string) => append_string_word(alloc, string.as_slice(), words),
+        Value::OptionalString(Some(string)) => append_string_word(alloc, string.as_slice(), words),
+        Value::OptionalString(None) => Ok(()),
         Value::CharStrings(strings) => append_string_words(alloc, strings.as_slice(), words),
         Value::Tag(tag) => append_copy(alloc, tag.as_slice(), words),
         Value::QuotedText(text) => append_string_word(alloc, text.as_slice(), words),
         Value::Base16(octets) => append_hex_words(alloc, octets.as_slice(), words),
         Value::Base64(octets) => append_base64_words(alloc, octets.as_slice(), words),
         Value::CountedBase16(octets) => append_counted_word(alloc, octets.as_slice(), words),
+        Value::CountedBase32(octets) => append_base32_words(alloc, octets.as_slice(), words),
+        Value::Types(types) => append_type_words(alloc, types.as_slice(), words),
+        Value::OptionalTypes(types) => append_type_words(alloc, types.as_slice(), words),
         Value::Generic(_) => Ok(()),
     }
 }
@@ -66,6 +72,10 @@ fn is_written(value: &Value) -> bool
         Value::CharStrings(strings) => has_some_list(strings.as_slice()),
         Value::Base16(octets) => has_some(octets.as_slice()),
         Value::Base64(octets) => has_some(octets.as_slice()),
+        Value::CountedBase32(octets) => has_some(octets.as_slice()),
+        Value::Types(types) => has_some_types(types.as_slice()),
+        Value::OptionalTypes(_) => true,
+        Value::OptionalString(_) => true,
         Value::Generic(_) => false,
         Value::Number8(_) => true,
         Value::Number16(_) => true,
@@ -92,6 +102,16 @@ fn has_some(octets: &[u8]) -> bool
     }
 }
 
+/// Whether there are types.
+fn has_some_types(types: &[u16]) -> bool
+    ensures { result ≡ is_some_list types.now }
+{
+    match types {
+        [] => false,
+        _ => true,
+    }
+}
+
 /// Whether there are strings.
 fn has_some_list(strings: &[Vec<u8>]) -> bool
     ensures { result ≡ is_some_list (lists strings.now) }
@@ -102,7 +122,7 @@ fn has_some_list(strings: &[Vec<u8>]) -> bool
     }
 }
 
-/// Whether a value takes all words that are left.
+/// Whether a value takes all words that are left, so that no field follows.
 fn takes_all_words(value: &Value) -> bool
     ensures { result ≡ takes_all (val_of value.now) }
 {
@@ -110,6 +130,9 @@ fn takes_all_words(value: &Value) -> bool
         Value::CharStrings(_) => true,
         Value::Base16(_) => true,
         Value::Base64(_) => true,
+        Value::Types(_) => true,
+        Value::OptionalTypes(_) => true,
+        Value::OptionalString(_) => true,
         Value::Generic(_) => false,
         Value::Number8(_) => false,
         Value::Number16(_) => false,
@@ -119,6 +142,7 @@ fn takes_all_words(value: &Value) -> bool
         Value::Ipv4(_) => false,
         Value::Ipv6(_) => false,
         Value::CountedBase16(_) => false,
+        Value::CountedBase32(_) => false,
         Value::Name(_) => false,
         Value::CharString(_) => false,
         Value::Tag(_) => false,
@@ -169,10 +193,10 @@ fn words_of_data(alloc: Global, plain: &PlainData) -> Result<Vec<Vec<u8>>, Alloc
 /// Appends the text of record data: its fields with a space between two (RFC 1035, 5.1), or `\#`, the number of its
 /// octets and these in hexadecimal digits (RFC 3597, 5).
 ///
-/// The second is for data with a field that has no form of its own ([`TextForm`](crate::TextForm)), or whose last
-/// field is empty. Names are written with their final dot, and without pointers. In them a dot, a backslash, a space
-/// and `;`, `"`, `(`, `)`, `@`, `$` are written after a backslash, other octets that aren't printed as a backslash
-/// and three digits.
+/// The second is for data with a field that has no form of its own ([`TextForm`](crate::TextForm)), whose last field
+/// is empty, or with bitmaps of types that aren't canonical (RFC 4034, 4.1.2). Names are written with their final dot,
+/// and without pointers. In them a dot, a backslash, a space and `;`, `"`, `(`, `)`, `@`, `$` are written after a
+/// backslash, other octets that aren't printed as a backslash and three digits.
 ///
 /// # Errors
 ///

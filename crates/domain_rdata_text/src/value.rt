@@ -3,13 +3,17 @@ ghost use Rattle.std.specs.Prelude.{◌≡◌, ◌++◌, Ok, Err, Some, None, []
 ghost use Rattle.std.specs.List.{flat_map};
 ghost use Rattle.domain_descriptor.specs.Rdatas.{field_kind, field_message, field_begin, field_after};
 ghost use Rattle.domain_label.specs.Wire.{wire, Root};
+ghost use Rattle.domain_rdata_text.specs.Bitmaps.{types_of_bitmaps};
 ghost use Rattle.domain_rdata_text.specs.Laws.{AreOctets};
 ghost use Rattle.domain_rdata_text.specs.Outcome.{AppendedTo};
 ghost use Rattle.domain_rdata_text.specs.Values.Val.{generic as held_generic};
-ghost use Rattle.domain_rdata_text.specs.Values.{val_of, vals_of, val_in, number8_in, number16_in, rtype_in, number32_in, time_in, ipv4_in, ipv6_in, string_in, counted16_in};
+ghost use Rattle.domain_rdata_text.specs.Values.{val_of, vals_of, val_in, number8_in, number16_in, rtype_in, number32_in, time_in};
+ghost use Rattle.domain_rdata_text.specs.Values.{ipv4_in, ipv6_in, string_in, optional_string_in, counted16_in, counted32_in};
+ghost use Rattle.domain_rdata_text.specs.Values.{types_or, optional_types_or};
 ghost use Rattle.domain_rdata_text.specs.Values.{strings_in, strings_or, is_tag, tag_in, counted, val_octets, vals_octets, ValueAt, HasValues};
 ghost use Rattle.domain_rdata_text.specs.Words.{lists};
 
+use crate::bitmaps::types_of_bitmaps;
 use crate::form::{TextForm, text_form};
 use crate::name::plain_name;
 use crate::push::{append, append_all, append_word, copy_of};
@@ -38,6 +42,8 @@ pub enum Value {
     Name(Vec<Vec<u8>>),
     /// The octets of a character string.
     CharString(Vec<u8>),
+    /// The octets of a character string, or none.
+    OptionalString(Option<Vec<u8>>),
     /// The octets of character strings.
     CharStrings(Vec<Vec<u8>>),
     /// The letters and digits of a tag.
@@ -50,6 +56,12 @@ pub enum Value {
     Base64(Vec<u8>),
     /// Octets behind their number that are written in hexadecimal digits.
     CountedBase16(Vec<u8>),
+    /// Octets behind their number that are written in base32hex.
+    CountedBase32(Vec<u8>),
+    /// Types.
+    Types(Vec<u16>),
+    /// Types, or none.
+    OptionalTypes(Vec<u16>),
     /// The octets of a field that has no text of its own.
     Generic(Vec<u8>),
 }
@@ -160,6 +172,20 @@ fn string_value(alloc: Global, octets: &[u8]) -> Result<Value, AllocError>
     generic_value(alloc, octets)
 }
 
+/// A character string, or none.
+fn optional_string_value(alloc: Global, octets: &[u8]) -> Result<Value, AllocError>
+    ensures { IfOk result (λ made. val_of made ≡ optional_string_in octets.now) }
+{
+    let [len, string @ ..] = octets else {
+        return Ok(Value::OptionalString(None));
+    };
+    if string.len() == usize::from(*len) {
+        let copy = copy_of(alloc, string)?;
+        return Ok(Value::OptionalString(Some(copy)));
+    }
+    generic_value(alloc, octets)
+}
+
 /// Octets behind their number.
 fn counted16_value(alloc: Global, octets: &[u8]) -> Result<Value, AllocError>
     ensures { IfOk result (λ made. val_of made ≡ counted16_in octets.now) }
@@ -172,6 +198,42 @@ fn counted16_value(alloc: Global, octets: &[u8]) -> Result<Value, AllocError>
         return Ok(Value::CountedBase16(copy));
     }
     generic_value(alloc, octets)
+}
+
+/// Octets behind their number that are written in base32hex.
+fn counted32_value(alloc: Global, octets: &[u8]) -> Result<Value, AllocError>
+    ensures { IfOk result (λ made. val_of made ≡ counted32_in octets.now) }
+{
+    let [len, others @ ..] = octets else {
+        return generic_value(alloc, octets);
+    };
+    if others.len() == usize::from(*len) {
+        let copy = copy_of(alloc, others)?;
+        return Ok(Value::CountedBase32(copy));
+    }
+    generic_value(alloc, octets)
+}
+
+/// Types.
+fn types_value(alloc: Global, octets: &[u8]) -> Result<Value, AllocError>
+    ensures { IfOk result
+        (λ made. val_of made ≡ types_or octets.now (types_of_bitmaps octets.now)) }
+{
+    match types_of_bitmaps(alloc, octets)? {
+        Some(types) => Ok(Value::Types(types)),
+        None => generic_value(alloc, octets),
+    }
+}
+
+/// Types, or none.
+fn optional_types_value(alloc: Global, octets: &[u8]) -> Result<Value, AllocError>
+    ensures { IfOk result
+        (λ made. val_of made ≡ optional_types_or octets.now (types_of_bitmaps octets.now)) }
+{
+    match types_of_bitmaps(alloc, octets)? {
+        Some(types) => Ok(Value::OptionalTypes(types)),
+        None => generic_value(alloc, octets),
+    }
 }
 
 /// What was read of character strings.
@@ -280,6 +342,7 @@ fn octets_value(alloc: Global, form: TextForm, octets: &[u8]) -> Result<Value, A
         TextForm::Ipv6 => ipv6_value(alloc, octets),
         TextForm::Name => generic_value(alloc, octets),
         TextForm::CharString => string_value(alloc, octets),
+        TextForm::OptionalString => optional_string_value(alloc, octets),
         TextForm::CharStrings => strings_value(alloc, octets),
         TextForm::Tag => tag_value(alloc, octets),
         TextForm::QuotedText => {
@@ -295,6 +358,9 @@ fn octets_value(alloc: Global, form: TextForm, octets: &[u8]) -> Result<Value, A
             Ok(Value::Base64(copy))
         }
         TextForm::CountedBase16 => counted16_value(alloc, octets),
+        TextForm::CountedBase32 => counted32_value(alloc, octets),
+        TextForm::Types => types_value(alloc, octets),
+        TextForm::OptionalTypes => optional_types_value(alloc, octets),
         TextForm::Generic => generic_value(alloc, octets),
     }
 }

@@ -44,10 +44,11 @@ abbrev pub TakesPiece : {O : Type 0} {g : Ghosts O} → StreamReader O g → Lis
 TakesPiece old piece new n =
     TakesOctets (most_octets_of old) (held_octets old) piece n (held_octets new)
 
--- Why it took none: the message is longer than the limit; else the buffer has no room for the octets.
+-- Why it took none: the message is longer than the limit; else there are octets, and the buffer has no room for them.
 abbrev pub PieceNotTaken : {O E : Type 0} {g : Ghosts O} → List ℕ → StreamReader O g → StreamError E → Type 0
 PieceNotTaken {g = g} piece reader (Append _) =
     (length_field (held_octets reader ++ piece) ≤ most_octets_of reader)
+    × (0 < count_taken (held_octets reader) piece)
     × LacksSpare g reader.buffer (count_taken (held_octets reader) piece)
 PieceNotTaken piece reader (Oversized len) =
     (most_octets_of reader < len) × (len ≡ length_field (held_octets reader ++ piece))

@@ -6,7 +6,7 @@ ghost use Rattle.std.specs.Cmp.Rules.{comparing};
 ghost use Rattle.std.specs.Ordering.{on};
 ghost use Rattle.base64.specs.Engines.{standard};
 ghost use Rattle.base64.specs.GeneralPurpose.{encode_of};
-ghost use Rattle.domain_fields.specs.FieldLaws.{fixed_size};
+ghost use Rattle.domain_fields.specs.FieldLaws.{fixed_size, no_longer};
 ghost use Rattle.domain_fields.specs.Parts.{no_name, one_part};
 ghost use Rattle.domain_fields.specs.Reading.{any_reading};
 ghost use Rattle.domain_rdata.specs.AnyData.{IsAllThatIsLeft, TooMuchIsLeft};
@@ -148,6 +148,8 @@ impl<const TEXT: u8, Octs: Octets> DataField for LastOctets<TEXT, Octs> {
     ghost plain = { λ _ _ _. refl };
 
     ghost flat = { λ _ _ _ same. same };
+
+    ghost never_longer = { λ it _ _ s is. no_longer (last_octets it) s is };
 
     ghost writes_composed = { λ it. octets_written (last_octets it) };
 

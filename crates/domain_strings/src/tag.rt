@@ -6,7 +6,7 @@ ghost use Rattle.std.specs.Cmp.Lexicographic.{pointwise};
 ghost use Rattle.std.specs.Cmp.Rules.{comparing};
 ghost use Rattle.std.specs.List.{list_all};
 ghost use Rattle.std.specs.Ordering.{on};
-ghost use Rattle.domain_fields.specs.FieldLaws.{fixed_size};
+ghost use Rattle.domain_fields.specs.FieldLaws.{fixed_size, no_longer};
 ghost use Rattle.domain_fields.specs.Parts.{no_name, one_part};
 ghost use Rattle.domain_fields.specs.Reading.{any_reading};
 ghost use Rattle.domain_strings.specs.CharStrings.{counted};
@@ -169,6 +169,8 @@ impl<Octs: Octets> DataField for Tag<Octs> {
     ghost plain = { λ _ _ _. refl };
 
     ghost flat = { λ _ _ _ same. same };
+
+    ghost never_longer = { λ it _ _ s is. no_longer (counted (tag_octets it)) s is };
 
     ghost writes_composed = { λ it. octets_written (counted (tag_octets it)) };
 

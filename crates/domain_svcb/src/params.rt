@@ -4,7 +4,7 @@ ghost use Rattle.std.proofs.Common.{rules};
 ghost use Rattle.std.specs.Cmp.Lexicographic.{pointwise};
 ghost use Rattle.std.specs.Cmp.Rules.{comparing};
 ghost use Rattle.std.specs.Ordering.{on};
-ghost use Rattle.domain_fields.specs.FieldLaws.{fixed_size};
+ghost use Rattle.domain_fields.specs.FieldLaws.{fixed_size, no_longer};
 ghost use Rattle.domain_fields.specs.Parts.{no_name, one_part};
 ghost use Rattle.domain_fields.specs.Reading.{any_reading};
 ghost use Rattle.domain_wire.specs.Refusals.{refusal};
@@ -232,6 +232,8 @@ impl<Octs: Octets> DataField for SvcParams<Octs> {
     ghost plain = { λ _ _ _. refl };
 
     ghost flat = { λ _ _ _ same. same };
+
+    ghost never_longer = { λ it _ _ s is. no_longer (params_held it) s is };
 
     ghost writes_composed = { λ it. octets_written (params_held it) };
 

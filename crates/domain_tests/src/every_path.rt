@@ -23,7 +23,8 @@ pub mod name {
         ParsedSuffixIter, PresentationError, PresentationErrorKind, PushError, PushNameError,
         Relative, RelativeFromStrError, RelativeLabels, RelativeName, RelativeNameError,
         RelativeNameErrorKind, SliceLabelsIter, SplitLabelError, StripSuffixError, SuffixIter,
-        ToLabelIter, ToName, ToRelativeName, builder_laws, order_laws, text_laws,
+        ToLabelIter, ToName, ToRelativeName, builder_laws, order_laws, split_octets_mut,
+        split_wire_mut, text_laws,
     };
 }
 

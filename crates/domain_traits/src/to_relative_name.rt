@@ -133,6 +133,7 @@ pub trait ToRelativeName<'a>: RelativeLabels<'a> {
         ensures nothing { OnErr result (Target.extends target.old [] target.new) }
         ensures full { OnErr result
             (NameLacksRoom Target.Octets (Self.labels self.now) target.old) }
+        ensures some { OnErr result (0 < length (wire (Self.labels self.now))) }
         ensures capacity { Target.capacity target.old ≤ Target.capacity target.new }
         ensures within { IfSome Target.limit (λ n. length (Target.octets target.new) ≤ n) }
         ensures fixed { IfSome Target.limit (λ n. Target.capacity target.old ≡ n) }
@@ -156,6 +157,7 @@ pub trait ToRelativeName<'a>: RelativeLabels<'a> {
         ensures nothing { OnErr result (Target.extends target.old [] target.new) }
         ensures full { OnErr result
             (LowercaseLacksRoom Target.Octets (Self.labels self.now) target.old) }
+        ensures some { OnErr result (0 < length (wire (lowercase_labels (Self.labels self.now)))) }
         ensures capacity { Target.capacity target.old ≤ Target.capacity target.new }
         ensures within { IfSome Target.limit (λ n. length (Target.octets target.new) ≤ n) }
         ensures fixed { IfSome Target.limit (λ n. Target.capacity target.old ≡ n) }

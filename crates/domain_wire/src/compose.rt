@@ -1,5 +1,5 @@
 //! Values of fixed length, and how they are written on the wire.
-ghost use Rattle.std.specs.Prelude.{◌≡◌, ℕ, ◌≤◌, List, [], length, OnOk, OnErr, IfSome, refl};
+ghost use Rattle.std.specs.Prelude.{◌≡◌, ℕ, ◌≤◌, ◌<◌, List, [], length, OnOk, OnErr, IfSome, refl};
 ghost use Rattle.std.specs.Int.{w8, w16, w32, w64, w128, to_be_bytes, cast_unsigned};
 ghost use Rattle.octseq.specs.Appending.{GrowsBy, TooFull};
 ghost use Rattle.domain_wire.specs.Addresses.{ipv4_octets, ipv6_octets, exactly_len};
@@ -34,6 +34,7 @@ pub trait Compose {
         ensures nothing { OnErr result (Target.extends target.old [] target.new) }
         ensures full { OnErr result
             (TooFull Target.Octets target.old (composed_octets self.now)) }
+        ensures some { OnErr result (0 < length (composed_octets self.now)) }
         ensures capacity { Target.capacity target.old ≤ Target.capacity target.new }
         ensures within { IfSome Target.limit (λ n. length (Target.octets target.new) ≤ n) };
 }

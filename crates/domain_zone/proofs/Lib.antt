@@ -1,7 +1,12 @@
 pub mod Adding
 pub mod Ascending
 pub mod Chains
+pub mod Cutting
+pub mod Enclosing
 pub mod Good
 pub mod Had
+pub mod Leading
 pub mod Leaves
+pub mod Neighbours
 pub mod Owned
+pub mod Substituting

@@ -3,5 +3,8 @@ pub mod Building
 pub mod Entries
 pub mod ErrorText
 pub mod Faults
+pub mod Headers
 pub mod Kept
+pub mod Neighbours
+pub mod Outcomes
 pub mod Records

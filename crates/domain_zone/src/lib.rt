@@ -1,4 +1,4 @@
-//! A zone that is kept: records that are known to be a zone, in canonical order.
+//! A zone that is kept, records that are known to be a zone in canonical order, and what it answers to a question.
 #![tactic(auto)]
 
 mod alone;
@@ -8,6 +8,7 @@ mod checking;
 mod entry;
 mod fault;
 mod kept;
+mod lookup;
 mod merging;
 mod names;
 
@@ -15,4 +16,5 @@ pub use building::{BuildError, InsertError, ZoneBuilder};
 pub use checking::find_fault;
 pub use fault::{RrsetFault, ZoneFault};
 pub use kept::Zone;
+pub use lookup::{Answer, Substitution};
 pub use names::Owner;

@@ -1,7 +1,7 @@
 //! The CNAME that a DNAME makes.
 
 use domain_name::Name;
-use domain_zone_lookup::Substitution;
+use domain_zone::Substitution;
 
 /// A CNAME record that a DNAME makes for a name below its owner (RFC 6672, 3.1).
 ///

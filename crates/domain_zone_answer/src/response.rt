@@ -14,8 +14,7 @@ use crate::cname::SynthesizedCname;
 use crate::section::SectionRrset;
 use domain_header::Rcode;
 use domain_name::Name;
-use domain_zone::Zone;
-use domain_zone_lookup::{Answer, lookup};
+use domain_zone::{Answer, Zone};
 
 /// What a response to a question has: two fields of its header, and the RRsets of its sections.
 #[derive(Drop)]
@@ -30,11 +29,11 @@ pub struct Response<'a> {
 impl<'a> Response<'a> {
     ghost use Rattle.std.specs.Prelude.{IsTrue, ◌↔◌, ◌++◌};
     ghost use Rattle.domain_header.specs.Values.{rcode_number};
+    ghost use Rattle.domain_zone.specs.Headers.{HasAuthority, response_code};
+    ghost use Rattle.domain_zone.specs.Outcomes.{outcome_of};
     ghost use Rattle.domain_zone_answer.specs.AddressViews.{addresses_left};
     ghost use Rattle.domain_zone_answer.specs.Sections.{synthesized_cnames};
     ghost use Rattle.domain_zone_answer.specs.Views.{section_list, cname_list};
-    ghost use Rattle.domain_zone_lookup.specs.Headers.{HasAuthority, response_code};
-    ghost use Rattle.domain_zone_lookup.specs.Outcomes.{outcome_of};
 
     /// Returns what the zone answers.
     pub fn outcome(&self) -> &Answer<'a>
@@ -111,7 +110,7 @@ pub fn respond<'a>(zone: &'a Zone, name: &'a Name<&'a [u8]>, rtype: u16) -> Resp
     ensures sections { AreSections (zone_view zone.now) (name_labels name.now)
         (response_outcome result) (response_sections result) }
 {
-    let outcome = lookup(zone, name, rtype);
+    let outcome = zone.lookup(name, rtype);
     let records = zone.records();
     let answer = answer_section(records, name, &outcome);
     let authority = authority_section(records, &outcome);

@@ -3,3 +3,13 @@ pub mod Hosts
 pub mod Parsed
 pub mod FlatNames
 pub mod Appending
+pub mod EdnsSizes
+pub mod Built
+pub mod MessageHosts
+pub mod Responses
+pub mod Served
+pub mod Services
+pub mod Exchangers
+pub mod MessageOctets
+pub mod Targets
+pub mod Zones

@@ -1,7 +1,7 @@
 use Rattle.std.proofs.Common.{◌≡◌, ◌+◌, length, take, refl, subst, arith, rules}
 use Rattle.std.proofs.lemmas.List.{length-take-le}
 use Rattle.domain_label.specs.Wire.{labels_in}
-use Rattle.domain_record.specs.Composing.{before_length}
+use Rattle.domain_message.specs.Composing.{before_length}
 use Rattle.domain_buffer.specs.Puts.{PutsAt}
 use Rattle.domain_buffer.specs.Data.{found_fields}
 use Rattle.domain_buffer.specs.Named.{SpelledNames, written_data}

@@ -1,7 +1,7 @@
 use Rattle.std.proofs.Common.{◌≡◌, ◌≤◌, ◌++◌, ◌∙◌, length, refl, ap, subst, arith, append_assoc, length-append}
 use Rattle.std.proofs.lemmas.Bool.{false≢true}
 use Rattle.std.specs.Int.{w16, to_be_bytes}
-use Rattle.domain_record.specs.Composing.{before_length}
+use Rattle.domain_message.specs.Composing.{before_length}
 use Rattle.domain_buffer.specs.Builders.{headed_by_wire, octets_after_owner, Enters}
 use Rattle.domain_buffer.proofs.Building.{record_pushed}
 use Rattle.domain_buffer.proofs.push.push_record.Goals as goal

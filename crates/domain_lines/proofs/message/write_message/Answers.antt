@@ -1,7 +1,7 @@
 use Rattle.std.proofs.Common.{◌≡◌, ◌<◌, length, refl, subst, ◌∙◌}
 use Rattle.std.proofs.lemmas.Result.{on_ok_weaker}
 use Rattle.octseq.specs.Parsing.{message, position}
-use Rattle.domain_record.specs.Facts.{same_message}
+use Rattle.domain_message.specs.ParserFacts.{same_message}
 use Rattle.domain_lines.specs.Messages.{ShowsAuthority}
 use Rattle.domain_lines.specs.Writing.{Wrote}
 use Rattle.domain_lines.proofs.Showing.{stopped_short, stopped_additional, wrote_message}

@@ -1,6 +1,6 @@
 use Rattle.std.proofs.Common.{refl, arith}
-use Rattle.domain_record.specs.Entries.{QuestionAt, NoQuestion}
-use Rattle.domain_record.specs.Models.{question_fields}
+use Rattle.domain_message.specs.Entries.{QuestionAt, NoQuestion}
+use Rattle.domain_message.specs.Models.{question_fields}
 use Rattle.domain_lines.specs.Messages.{IsQuestionText}
 use Rattle.domain_lines.proofs.Showing.{written_none, written_more, written_all, written_missing}
 use Rattle.domain_lines.proofs.message.write_questions.Goals as goal

@@ -1,4 +1,4 @@
-use Rattle.domain_record.specs.Entries.{QuestionAt}
+use Rattle.domain_message.specs.Entries.{QuestionAt}
 use Rattle.domain_lines.specs.Messages.{IsQuestionText}
 use Rattle.domain_lines.proofs.Showing.{Written}
 use Rattle.domain_lines.proofs.message.write_questions.Given as goal

@@ -1,7 +1,7 @@
 use Rattle.std.proofs.Common.{arith}
 use Rattle.domain_header.specs.Values.{rcode_number}
-use Rattle.domain_record.specs.Entries.{RecordAt, NoRecord}
-use Rattle.domain_record.specs.RecordModel.{record_fields}
+use Rattle.domain_message.specs.Entries.{RecordAt, NoRecord}
+use Rattle.domain_message.specs.RecordModel.{record_fields}
 use Rattle.domain_lines.specs.Records.{IsEntryText}
 use Rattle.domain_lines.proofs.Showing.{recorded_none, recorded_more, written_all, written_missing}
 use Rattle.domain_lines.proofs.message.write_records.Goals as goal

@@ -1,6 +1,6 @@
 use Rattle.std.proofs.lemmas.Result.{on_ok_weaker}
 use Rattle.octseq.specs.Parsing.{message, position}
-use Rattle.domain_record.specs.Facts.{same_message}
+use Rattle.domain_message.specs.ParserFacts.{same_message}
 use Rattle.domain_lines.proofs.Showing.{stopped_answers, wrote_answers}
 use Rattle.domain_lines.proofs.message.write_to_answers.Goals as goal
 

@@ -1,10 +1,10 @@
 use Rattle.std.proofs.Common.{◌≡◌, ◌≤◌, ◌∙◌, [], length, refl, arith, ap, subst₂, rules}
 use Rattle.octseq.specs.Parsing.{message, position}
-use Rattle.domain_record.specs.Entries.{RecordAt}
-use Rattle.domain_record.specs.Entries.NoNameBefore.{no_name}
-use Rattle.domain_record.specs.Entries.NoRecord.{no_header}
-use Rattle.domain_record.specs.Facts.{same_message}
-use Rattle.domain_record.specs.RecordModel.{record_fields}
+use Rattle.domain_message.specs.Entries.{RecordAt}
+use Rattle.domain_message.specs.Entries.NoNameBefore.{no_name}
+use Rattle.domain_message.specs.Entries.NoRecord.{no_header}
+use Rattle.domain_message.specs.ParserFacts.{same_message}
+use Rattle.domain_message.specs.RecordModel.{record_fields}
 use Rattle.domain_parsed.proofs.NoNamePastEnd.{past_end}
 use Rattle.domain_lines.proofs.Laying.{holds_nothing}
 use Rattle.domain_lines.proofs.put.put_record.Goals as goal

@@ -1,6 +1,6 @@
 use Rattle.std.proofs.Common.{sym, subst, refl, ◌∙◌}
 use Rattle.domain_header.specs.Values.{rcode_number}
-use Rattle.domain_record.specs.RecordModel.{record_fields}
+use Rattle.domain_message.specs.RecordModel.{record_fields}
 use Rattle.domain_lines.specs.Records.{is_opt_in, IsOptText}
 use Rattle.domain_lines.specs.Records.IsEntryText.{opt, plain}
 use Rattle.domain_lines.proofs.Entries.{any_here, any_still}

@@ -1,7 +1,7 @@
 use Rattle.std.proofs.Common.{◌∷◌, ◌++◌, [], subst}
 use Rattle.std.proofs.lemmas.Result.{on_ok_weaker}
 use Rattle.domain_header.specs.Values.{rcode_number, ttl_seconds}
-use Rattle.domain_record.specs.RecordModel.{record_fields}
+use Rattle.domain_message.specs.RecordModel.{record_fields}
 use Rattle.domain_lines.specs.Edns.{edns_line}
 use Rattle.domain_lines.proofs.Entries.{wrote_opt}
 use Rattle.domain_lines.proofs.record.write_opt.Goals as goal

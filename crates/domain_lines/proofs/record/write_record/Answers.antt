@@ -1,7 +1,7 @@
 use Rattle.std.proofs.Common.{refl, rules}
 use Rattle.std.proofs.lemmas.Bool.{false≢true}
 use Rattle.domain_all_data.specs.AllData.{NoAllData}
-use Rattle.domain_record.specs.RecordModel.{record_fields}
+use Rattle.domain_message.specs.RecordModel.{record_fields}
 use Rattle.domain_lines.specs.Records.{bare_text, unread_text}
 use Rattle.domain_lines.specs.Records.IsRecordLine.{bare, unread}
 use Rattle.domain_lines.proofs.record.write_record.Goals as goal

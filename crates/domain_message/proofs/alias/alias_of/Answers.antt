@@ -1,6 +1,6 @@
 use Rattle.std.proofs.Common.{length, ap, arith}
 use Rattle.domain_parsed.specs.ParsedNames.{parsed_labels}
-use Rattle.domain_record.proofs.Names.{not_whole}
+use Rattle.domain_message.proofs.Names.{not_whole}
 use Rattle.domain_message.proofs.alias.alias_of.Goals as goal
 
 pub returns-then-pos-as_slice-clause-none : goal.returns-then-pos-as_slice-clause-none

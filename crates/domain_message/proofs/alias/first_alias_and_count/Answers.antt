@@ -1,7 +1,7 @@
 use Rattle.std.proofs.Common.{◌≡◌, ◌+◌, ◌≤◌, arith}
 use Rattle.std.specs.Prelude.{option_map}
 use Rattle.domain_parsed.specs.ParsedNames.{parsed_labels}
-use Rattle.domain_record.specs.RecordModel.{record_fields}
+use Rattle.domain_message.specs.RecordModel.{record_fields}
 use Rattle.domain_message.proofs.Aliases.{IsAtSection, counting_more, counting_all, counting_missing, counts_one, counts_none, finds_same, finds_next, finds_no_more, found_some, found_none}
 use Rattle.domain_message.proofs.alias.first_alias_and_count.Goals.{then-to_int-eq-CNAME+in-Some, then-to_int-eq-CNAME+in-None, else-to_int-eq-CNAME}
 use Rattle.domain_message.proofs.alias.first_alias_and_count.Goals as goal

@@ -1,5 +1,5 @@
 use Rattle.std.proofs.Common.{◌≡◌, ◌+◌, ◌-◌, arith, rules}
-use Rattle.domain_record.specs.Facts.{same_message}
+use Rattle.domain_message.specs.ParserFacts.{same_message}
 use Rattle.domain_message.proofs.Skipping.{passed_more}
 use Rattle.domain_message.proofs.kept.next_kept.Goals as goal
 

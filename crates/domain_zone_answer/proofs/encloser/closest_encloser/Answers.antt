@@ -1,8 +1,8 @@
 use Rattle.std.proofs.Common.{sym, ◌∙◌, true≢false}
 use Rattle.domain_name.specs.Names.{name_labels}
 use Rattle.domain_name.specs.Suffixes.{suffix_lists_left}
+use Rattle.domain_zone.proofs.Enclosing.{here, on, never_ends}
 use Rattle.domain_zone.specs.Records.{records_view}
-use Rattle.domain_zone_lookup.proofs.Enclosing.{here, on, never_ends}
 use Rattle.domain_zone_answer.proofs.encloser.closest_encloser.Goals as goal
 
 pub returns-then-exists : goal.returns-then-exists

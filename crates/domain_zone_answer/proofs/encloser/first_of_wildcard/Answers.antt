@@ -1,12 +1,12 @@
 use Rattle.std.proofs.Common.{rules, ◌≡◌, ◌++◌, ◌<◌, refl, sym, ap, ◌∙◌, subst}
 use Rattle.domain_list.specs.Chains.{before_root}
 use Rattle.domain_name.specs.Names.{name_labels, relative_labels, Wildcard}
+use Rattle.domain_zone.proofs.Leading.{long_source}
+use Rattle.domain_zone.proofs.Substituting.{joined}
 use Rattle.domain_zone.specs.Records.{records_view, set_view}
 use Rattle.domain_zone_answer.proofs.Wildcards.{inside, exists_owner, owns_source}
 use Rattle.domain_zone_answer.specs.Sections.{IsChosen}
 use Rattle.domain_zone_laws.specs.Zone.{OwnsRecords, source_of_synthesis}
-use Rattle.domain_zone_lookup.proofs.Leading.{long_source}
-use Rattle.domain_zone_lookup.proofs.Substituting.{joined}
 use Rattle.domain_zone_answer.proofs.encloser.first_of_wildcard.Goals as goal
 
 pub closest_encloser-encloser-requires-clause-inside : goal.closest_encloser-encloser-requires-clause-inside

@@ -1,7 +1,7 @@
 use Rattle.std.proofs.Common.{◌≡◌, arith, ap, length, ◌∙◌}
 use Rattle.std.specs.Prelude.{Ok}
-use Rattle.domain_record.specs.Entries.{QuestionAt, NoQuestion}
-use Rattle.domain_record.specs.Facts.{same_message}
+use Rattle.domain_message.specs.Entries.{QuestionAt, NoQuestion}
+use Rattle.domain_message.specs.ParserFacts.{same_message}
 use Rattle.domain_message.proofs.Sections.{skipped_none, skipped_more, misses, begins}
 use Rattle.domain_message.proofs.section.QuestionSection.answer.Goals as goal
 

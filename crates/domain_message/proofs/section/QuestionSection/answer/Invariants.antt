@@ -1,4 +1,4 @@
-use Rattle.domain_record.specs.Entries.{QuestionAt}
+use Rattle.domain_message.specs.Entries.{QuestionAt}
 use Rattle.domain_message.proofs.Sections.{Skipped}
 use Rattle.domain_message.proofs.section.QuestionSection.answer.Given as goal
 

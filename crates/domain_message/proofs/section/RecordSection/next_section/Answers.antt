@@ -1,7 +1,7 @@
 use Rattle.std.proofs.Common.{◌≡◌, arith, ap, length, sym, ◌∙◌}
 use Rattle.std.specs.Prelude.{Ok}
-use Rattle.domain_record.specs.Entries.{RecordAt, NoRecord}
-use Rattle.domain_record.specs.Facts.{same_message}
+use Rattle.domain_message.specs.Entries.{RecordAt, NoRecord}
+use Rattle.domain_message.specs.ParserFacts.{same_message}
 use Rattle.domain_message.proofs.Sections.{skipped_none, skipped_more, misses, begins}
 use Rattle.domain_message.proofs.section.RecordSection.next_section.Goals as goal
 

@@ -1,4 +1,4 @@
-use Rattle.domain_record.specs.Entries.{RecordAt}
+use Rattle.domain_message.specs.Entries.{RecordAt}
 use Rattle.domain_message.proofs.Sections.{Skipped}
 use Rattle.domain_message.proofs.section.RecordSection.next_section.Given as goal
 

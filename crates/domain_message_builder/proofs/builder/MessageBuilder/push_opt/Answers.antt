@@ -1,6 +1,6 @@
 use Rattle.domain_message_builder.specs.OptViews.{opt_of}
 use Rattle.domain_message_builder.specs.Views.{state_of, target_of}
-use Rattle.domain_message_builder.proofs.Cutting.{opt_pushed, opt_not_pushed, opt_appended, opt_written}
+use Rattle.domain_message_builder.proofs.Cutting.{opt_pushed, opt_not_pushed, opt_lacks_room, opt_appended, opt_written}
 use Rattle.domain_message_builder.proofs.builder.MessageBuilder.push_opt.Goals as goal
 
 pub returns-clause-ok : goal.returns-clause-ok
@@ -19,3 +19,10 @@ pub returns-clause-written : goal.returns-clause-written
 returns-clause-written g c compressing =
     opt_written c.push_keeping.result g.Target.Octets.octets g.Target.OctetsBuilder.extends g.Target.Truncate.cuts g.Target.Composer.appends (opt_of c.args.opt.now) (target_of c.args.self.now) (target_of c.push_keeping.new.self) _ _
     c.record-record.ensures.head c.record-record.ensures.options (c.push_keeping.ensures.written compressing)
+
+pub returns-clause-no_room : goal.returns-clause-no_room
+returns-clause-no_room g c =
+    let o = opt_of c.args.opt.now in
+    let s = state_of g.Target.Octets.octets c.args.self.now in
+    let room = g.Target.Octets.capacity (target_of c.args.self.now) in
+    opt_lacks_room c.push_keeping.result _ o s room c.args.opt.now.few (opt_not_pushed c.push_keeping.result _ o s room _ _ c.record-record.ensures.head c.record-record.ensures.options c.push_keeping.ensures.why)

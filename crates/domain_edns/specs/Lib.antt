@@ -1,6 +1,0 @@
-pub mod KnownOptions
-pub mod KnownViews
-pub mod OptRecords
-pub mod Options
-pub mod Readings
-pub mod Views

@@ -1,0 +1,264 @@
+//! What options say whose codes are known.
+ghost use Rattle.std.specs.Prelude.{◌≡◌, ◌↔◌, ◌<◌, ◌-◌, ◌^◌, IfOk, IfErr, OnOk, IsTrue, Some, length};
+ghost use Rattle.domain_wire.specs.Refusals.{refusal};
+ghost use Rattle.domain_message.specs.KnownOptions.{IsCookieFault, family_bits, octets_of_prefix, IsPrefix, IsPrefixFault, IsAddress};
+ghost use Rattle.domain_message.specs.KnownOptions.{IsAddressFault, EndsInZeros, IsSubnetFault, octet_digits, nsid_text};
+ghost use Rattle.domain_message.specs.KnownViews.{ReadAs, NotReadAs, SayNsid, SayError, IsErrorFault, SayCookies, SaySubnet};
+
+use crate::edns_options::EdnsOption;
+use domain_header::numbers::number_of_16_bits;
+use domain_label::hex::hex_character;
+use domain_wire::ParseError;
+use std::fmt;
+
+/// The codes of the options that are read here, of IANA's registry of EDNS option codes of 6 December 2022:
+/// `evidence/compare/registries` compares them with a copy of that day.
+const NAME_SERVER_IDENTIFIER: u16 = 3;
+
+const CLIENT_SUBNET: u16 = 8;
+
+const COOKIE: u16 = 10;
+
+const EXTENDED_ERROR: u16 = 15;
+
+/// The identifier of the name server that answered (RFC 5001, 2.3), shown as two hexadecimal digits for each octet
+/// (2.4).
+#[derive(Clone, Copy, Debug, PartialEq, Eq)]
+pub struct Nsid<'a> {
+    /// Any octets; none in a query, which asks for it.
+    pub identifier: &'a [u8],
+}
+
+impl<'a> Nsid<'a> {
+    /// The identifier that an option is, which is all of its octets. `None` exactly where its code isn't 3.
+    pub fn from_option(option: EdnsOption<'a>) -> Option<Nsid<'a>>
+        ensures { ReadAs 3 SayNsid option.entry result }
+    {
+        if option.code != NAME_SERVER_IDENTIFIER {
+            return None;
+        }
+        Some(Nsid {
+            identifier: option.data,
+        })
+    }
+}
+
+impl<'a> fmt::Display for Nsid<'a> {
+    ghost output = { λ it. Some (nsid_text it.identifier.now) };
+
+    fn fmt<W: fmt::Write>(&self, f: &mut fmt::Formatter<W>) -> fmt::Result {
+        for octet in self.identifier {
+            write!(f, "{}", Digits(*octet))?;
+        }
+        Ok(())
+    }
+}
+
+/// An octet in two hexadecimal digits.
+#[derive(Clone, Copy)]
+struct Digits(u8);
+
+impl fmt::Display for Digits {
+    ghost output = { λ it. Some (octet_digits it.0) };
+
+    fn fmt<W: fmt::Write>(&self, f: &mut fmt::Formatter<W>) -> fmt::Result {
+        let high = hex_character(self.0 / 16);
+        let low = hex_character(self.0 % 16);
+        write!(f, "{high}{low}")
+    }
+}
+
+/// An extended error: more of why a response has its code (RFC 8914, 2).
+#[derive(Clone, Copy, Debug, PartialEq, Eq)]
+pub struct ExtendedError<'a> {
+    /// The kind of error.
+    pub info_code: u16,
+    /// What people may read of it, in UTF-8 by its sender's word alone. It may be empty, and may end in a zero octet.
+    pub text: &'a [u8],
+}
+
+impl<'a> ExtendedError<'a> {
+    /// The extended error that an option is. `None` exactly where its code isn't 15.
+    ///
+    /// `ShortInput` exactly where it is, and the option has fewer than two octets.
+    pub fn from_option(option: EdnsOption<'a>) -> Result<Option<ExtendedError<'a>>, ParseError>
+        ensures ok { IfOk result (ReadAs 15 SayError option.entry) }
+        ensures err { IfErr result (NotReadAs 15 IsErrorFault option.entry) }
+    {
+        let octets = option.data;
+        if option.code != EXTENDED_ERROR {
+            return Ok(None);
+        }
+        if octets.len() < 2 {
+            return Err(ParseError::ShortInput);
+        }
+        Ok(Some(ExtendedError {
+            info_code: number_of_16_bits(octets, 0),
+            text: &octets[2..],
+        }))
+    }
+}
+
+/// Cookies, by which a client and a server know each other again (RFC 7873, 4).
+#[derive(Clone, Copy, Debug, PartialEq, Eq)]
+pub struct Cookie<'a> {
+    /// The client's, of 8 octets.
+    pub client: &'a [u8],
+    /// The server's, of 8 to 32 octets, if it is there.
+    pub server: Option<&'a [u8]>,
+}
+
+impl<'a> Cookie<'a> {
+    /// The cookies that an option is. `None` exactly where its code isn't 10.
+    ///
+    /// Where it is: `ShortInput` exactly where the option has fewer than 8 octets, an error of form exactly where it
+    /// has 9 to 15 or more than 40. A server answers either by FORMERR (RFC 7873, 5.2.2).
+    pub fn from_option(option: EdnsOption<'a>) -> Result<Option<Cookie<'a>>, ParseError>
+        ensures ok { IfOk result (ReadAs 10 SayCookies option.entry) }
+        ensures err { IfErr result (NotReadAs 10 (λ o. IsCookieFault (length o)) option.entry) }
+    {
+        let octets = option.data;
+        if option.code != COOKIE {
+            return Ok(None);
+        }
+        let len = octets.len();
+        if len < 8 {
+            return Err(ParseError::ShortInput);
+        }
+        let (client, server) = (&octets[..8], &octets[8..]);
+        if len == 8 {
+            return Ok(Some(Cookie {
+                client,
+                server: None,
+            }));
+        }
+        if len < 16 || len > 40 {
+            return Err(ParseError::form_error("server cookie of a wrong length"));
+        }
+        Ok(Some(Cookie {
+            client,
+            server: Some(server),
+        }))
+    }
+}
+
+/// How many bits the addresses of a family have.
+fn bits_of_family(family: u16) -> Option<u8>
+    ensures { result ≡ family_bits family }
+{
+    match family {
+        0 => Some(0),
+        1 => Some(32),
+        2 => Some(128),
+        _ => None,
+    }
+}
+
+/// So many bits of an address of this family can be told, or an error of form.
+fn check_prefix(family: u16, source: u8) -> Result<(), ParseError>
+    ensures ok { OnOk result (IsPrefix family source) }
+    ensures err { IfErr result (λ e. IsPrefixFault family source (refusal e)) }
+{
+    let Some(most) = bits_of_family(family) else {
+        return Err(ParseError::form_error("unknown family of addresses"));
+    };
+    if most < source {
+        return Err(ParseError::form_error("prefix longer than an address"));
+    }
+    Ok(())
+}
+
+/// The number of which an octet is a multiple whose bits after the first ones are zero.
+fn multiple_of(first: u8) -> u8
+    requires some { 0 < first }
+    requires few { first < 8 }
+    ensures { result ≡ 2 ^ (8 - first) }
+{
+    match first {
+        1 => 128,
+        2 => 64,
+        3 => 32,
+        4 => 16,
+        5 => 8,
+        6 => 4,
+        _ => 2,
+    }
+}
+
+/// Whether the bits after the first ones are zero, in the last octet that has any of these.
+fn ends_in_zeros(address: &[u8], bits: u8) -> bool
+    requires { length address.now ≡ octets_of_prefix bits }
+    ensures { IsTrue result ↔ EndsInZeros address.now bits }
+{
+    let first = bits % 8;
+    if first == 0 {
+        return true;
+    }
+    address[usize::from(bits / 8)] % multiple_of(first) == 0
+}
+
+/// Octets are so many bits of an address, or `ShortInput` or an error of form.
+fn check_address(source: u8, address: &[u8]) -> Result<(), ParseError>
+    ensures ok { OnOk result (IsAddress source address.now) }
+    ensures err { IfErr result (λ e. IsAddressFault source address.now (refusal e)) }
+{
+    let len = (usize::from(source) + 7) / 8;
+    if address.len() < len {
+        return Err(ParseError::ShortInput);
+    }
+    if address.len() > len {
+        return Err(ParseError::form_error("address longer than its prefix"));
+    }
+    if !ends_in_zeros(address, source) {
+        return Err(ParseError::form_error("address has bits after its prefix"));
+    }
+    Ok(())
+}
+
+/// A client's subnet, for which an answer is made (RFC 7871, 6).
+#[derive(Clone, Copy, Debug, PartialEq, Eq)]
+pub struct ClientSubnet<'a> {
+    /// The family of the address: 1 for IPv4, 2 for IPv6, 0 where no bit of it is encoded.
+    pub family: u16,
+    /// How many bits of the address are encoded.
+    pub source_prefix_len: u8,
+    /// For how many bits an answer is meant, which can be more than are encoded; 0 in a query. It isn't checked.
+    pub scope_prefix_len: u8,
+    /// The address prefix in the fewest octets that hold it, padded with zero bits.
+    pub address: &'a [u8],
+}
+
+impl<'a> ClientSubnet<'a> {
+    /// Returns the subnet that an option encodes. `None` if and only if its code isn't 8.
+    ///
+    /// Where the code is 8, returns `ShortInput` if the option has fewer than four octets. Otherwise, returns a form
+    /// error if the family isn't 0, 1 or 2, or more bits are encoded than its addresses have. Otherwise, returns
+    /// `ShortInput` if the address has fewer octets than these bits take. Otherwise, returns a form error if it has
+    /// more, or a bit after them isn't zero. A server answers each of these errors by FORMERR (RFC 7871, 6).
+    pub fn from_option(option: EdnsOption<'a>) -> Result<Option<ClientSubnet<'a>>, ParseError>
+        ensures ok { IfOk result (ReadAs 8 SaySubnet option.entry) }
+        ensures err { IfErr result (NotReadAs 8 IsSubnetFault option.entry) }
+    {
+        let octets = option.data;
+        if option.code != CLIENT_SUBNET {
+            return Ok(None);
+        }
+        if octets.len() < 4 {
+            return Err(ParseError::ShortInput);
+        }
+        let family = number_of_16_bits(octets, 0);
+        let (source, address) = (octets[2], &octets[4..]);
+        if let Err(e) = check_prefix(family, source) {
+            return Err(e);
+        }
+        if let Err(e) = check_address(source, address) {
+            return Err(e);
+        }
+        Ok(Some(ClientSubnet {
+            family,
+            source_prefix_len: source,
+            scope_prefix_len: octets[3],
+            address,
+        }))
+    }
+}

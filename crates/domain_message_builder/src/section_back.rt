@@ -1,0 +1,69 @@
+//! Messages of which records are taken away, if there are any.
+ghost use Rattle.std.specs.Prelude.{◌≡◌, ◌<◌, ◌↔◌, IsTrue};
+ghost use Rattle.domain_message.specs.declared.section.Section.TheVariants.{Answer};
+ghost use Rattle.domain_message_builder.specs.Builders.{target_room, HasRecords, HasNoRecords, HasLater, HasNoLater};
+ghost use Rattle.domain_message_builder.specs.Builders.{CutsToSection, CutsToNext, RewindsTo, RewindsToNext};
+ghost use Rattle.domain_message_builder.specs.Pushes.{later_count, record_count};
+
+use crate::builder::MessageBuilder;
+use domain_header::HeaderCounts;
+use domain_message::Section;
+use domain_rdata::Composer;
+
+/// Whether there is a record.
+fn has_records(counts: HeaderCounts) -> bool
+    ensures { IsTrue result ↔ (0 < record_count counts) }
+{
+    counts.ancount() > 0 || counts.nscount() > 0 || counts.arcount() > 0
+}
+
+/// Whether a section after this one has a record.
+fn has_later(section: Section, counts: HeaderCounts) -> bool
+    ensures { IsTrue result ↔ (0 < later_count section counts) }
+{
+    match section {
+        Section::Answer => counts.nscount() > 0 || counts.arcount() > 0,
+        Section::Authority => counts.arcount() > 0,
+        Section::Additional => false,
+    }
+}
+
+/// The message without records.
+pub(crate) fn without_records<Target: Composer>(
+    builder: MessageBuilder<Target>,
+) -> MessageBuilder<Target>
+    ensures none { HasNoRecords result }
+    ensures same { HasNoRecords builder → result ≡ builder }
+    ensures rewinds { HasRecords builder → RewindsTo Answer builder result }
+    ensures cut { HasRecords builder → CutsToSection Answer builder result }
+    ensures capacity { target_room result ≡ target_room builder }
+{
+    if !has_records(builder.counts()) {
+        return builder;
+    }
+    let mut builder = builder;
+    builder.rewind(Section::Answer);
+    builder
+}
+
+/// The message without records of the sections after this one.
+pub(crate) fn without_later<Target: Composer>(
+    section: Section,
+    builder: MessageBuilder<Target>,
+) -> MessageBuilder<Target>
+    ensures none { HasNoLater section result }
+    ensures same { HasNoLater section builder → result ≡ builder }
+    ensures rewinds { HasLater section builder → RewindsToNext section builder result }
+    ensures cut { HasLater section builder → CutsToNext section builder result }
+    ensures capacity { target_room result ≡ target_room builder }
+{
+    let Some(next) = section.next_section() else {
+        return builder;
+    };
+    if !has_later(section, builder.counts()) {
+        return builder;
+    }
+    let mut builder = builder;
+    builder.rewind(next);
+    builder
+}

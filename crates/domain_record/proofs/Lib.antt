@@ -1,3 +1,0 @@
-pub mod ComposingRecords
-pub mod DataStanding
-pub mod Names

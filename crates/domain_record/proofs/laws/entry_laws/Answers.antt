@@ -1,5 +1,0 @@
-use Rattle.domain_record.specs.Readings.{question_once, question_decided, record_once, record_decided}
-use Rattle.domain_record.proofs.laws.entry_laws.Goals as goal
-
-pub returns : goal.returns
-returns c = record { question_once = question_once; question_decided = question_decided; record_once = record_once; record_decided = record_decided }

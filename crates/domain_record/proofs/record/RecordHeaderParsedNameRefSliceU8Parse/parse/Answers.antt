@@ -1,6 +1,0 @@
-use Rattle.std.proofs.Common.{refl}
-use Rattle.domain_record.proofs.Names.{short_after}
-use Rattle.domain_record.proofs.record.RecordHeaderParsedNameRefSliceU8Parse.parse.Goals as goal
-
-pub returns-in-Err-clause-err : goal.returns-in-Err-clause-err
-returns-in-Err-clause-err c = short_after 10 _ _ _ c.in_ok-owner.ensures.labels c.in_ok-owner.ensures.moves (c.in-Err.ensures.short.0 refl)

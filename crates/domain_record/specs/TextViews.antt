@@ -1,7 +1,0 @@
--- What contracts see of a type that is shown.
-use Rattle.domain_rdata.specs.declared.rtype.Rtype.{Rtype}
-use Rattle.domain_record.specs.declared.rtype_text.RtypeText.{RtypeText}
-
--- The type that an `RtypeText` shows.
-abbrev pub shown_type : RtypeText → Rtype
-shown_type it = it.0

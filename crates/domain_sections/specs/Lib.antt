@@ -1,4 +1,0 @@
-pub mod Errors
-pub mod Questions
-pub mod Records
-pub mod Views

@@ -1,0 +1,57 @@
+use Rattle.std.proofs.Common.{◌≡◌, ◌++◌, ◌<◌, refl, sym, ap, ◌∙◌, subst, inr, true≢false}
+use Rattle.domain_list.specs.Chains.{before_root}
+use Rattle.domain_name.specs.Names.{name_labels, relative_labels, Wildcard}
+use Rattle.domain_zone.proofs.Leading.{redirected, long_source}
+use Rattle.domain_zone.proofs.Substituting.{joined}
+use Rattle.domain_zone.specs.Outcomes.{outcome_of}
+use Rattle.domain_zone_laws.proofs.Ending.{ends_same}
+use Rattle.domain_zone_laws.specs.Answers.{Replies}
+use Rattle.domain_zone_laws.specs.Views.{reply_of, rrset, zone_of}
+use Rattle.domain_zone_laws.specs.Zone.{Exists, source_of_synthesis}
+use Rattle.domain_zone.proofs.lookup.nonexistent.lookup_nonexistent.Goals as goal
+
+pub redirection-requires-clause-below : goal.redirection-requires-clause-below
+redirection-requires-clause-below c =
+    ends_same (name_labels c.args.name.now) (name_labels c.closest_encloser-encloser.result) (name_labels c.in-Some.dname.now.owner) (sym c.in-Some.ensures.1) c.closest_encloser-encloser.ensures.1
+
+pub redirection-requires-clause-target : goal.redirection-requires-clause-target
+redirection-requires-clause-target c = c.requires.zone.one_target (name_labels c.closest_encloser-encloser.result) (rrset name_labels c.in-Some.dname.now) (inr c.in-Some.ensures)
+
+pub returns-in-Some : goal.returns-in-Some
+returns-in-Some c =
+    redirected (zone_of name_labels c.args.records.now) (name_labels c.args.name.now) (name_labels c.closest_encloser-encloser.result) c.args.rtype (rrset name_labels c.in-Some.dname.now)
+    (c.requires.ours, c.requires.missing, c.closest_encloser-encloser.ensures) c.in-Some.ensures (outcome_of c.redirection.result) c.redirection.ensures
+
+pub returns-in_default-new : goal.returns-in_default-new
+returns-in_default-new c =
+    let e = name_labels c.closest_encloser-encloser.result in
+    let at : relative_labels c.wildcard_ref.result ++ e ≡ source_of_synthesis e = ap (λ x. x ++ e) c.wildcard_ref.ensures in
+    let long : 254 < before_root (source_of_synthesis e) = subst (λ x. 254 < before_root x) at (c.in_default-new.ensures.long.0 refl) in
+    (e, (c.requires.ours, c.requires.missing, c.closest_encloser-encloser.ensures), c.in_default.ensures, long_source (zone_of name_labels c.args.records.now) c.requires.zone e c.closest_encloser-encloser.result.absolute.1.0 long)
+
+pub returns-then-not-exists : goal.returns-then-not-exists
+returns-then-not-exists c =
+    let e = name_labels c.closest_encloser-encloser.result in
+    let made = c.in-Ok.source in
+    let at : relative_labels made.left ++ name_labels made.right ≡ source_of_synthesis e =
+    joined (relative_labels made.left) Wildcard (name_labels made.right) e (ap relative_labels c.in-Ok.ensures.parts.0 ∙ c.wildcard_ref.ensures) (ap name_labels c.in-Ok.ensures.parts.1) in
+    let z = zone_of name_labels c.args.records.now in (
+      e,
+      (c.requires.ours, c.requires.missing, c.closest_encloser-encloser.ensures),
+      c.in_default.ensures,
+      λ x. true≢false (sym (c.exists.ensures.1 (subst (λ n. Exists z n) (sym at) x)) ∙ c.if-not-exists.true),
+    )
+
+pub returns : goal.returns
+returns c =
+    let e = name_labels c.closest_encloser-encloser.result in
+    let made = c.in-Ok.source in
+    let at : relative_labels made.left ++ name_labels made.right ≡ source_of_synthesis e =
+    joined (relative_labels made.left) Wildcard (name_labels made.right) e (ap relative_labels c.in-Ok.ensures.parts.0 ∙ c.wildcard_ref.ensures) (ap name_labels c.in-Ok.ensures.parts.1) in
+    let z = zone_of name_labels c.args.records.now in (
+      e,
+      (c.requires.ours, c.requires.missing, c.closest_encloser-encloser.ensures),
+      c.in_default.ensures,
+      subst (λ n. Exists z n) at (c.exists.ensures.0 c.if-not-exists.false),
+      subst (λ n. Replies z n c.args.rtype (reply_of name_labels c.reply_at.result)) at c.reply_at.ensures,
+    )

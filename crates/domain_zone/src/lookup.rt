@@ -1,0 +1,62 @@
+//! Questions to a zone.
+ghost use Rattle.std.specs.Prelude.{◌≡◌, ℕ, List};
+ghost use Rattle.domain_name.specs.Names.{name_labels};
+ghost use Rattle.domain_zone.specs.Kept.{zone_view};
+ghost use Rattle.domain_zone.specs.Outcomes.{outcome_of};
+ghost use Rattle.domain_zone.specs.Records.{records_view};
+ghost use Rattle.domain_zone_laws.specs.Answers.{Answers};
+ghost use Rattle.domain_zone_laws.specs.Sorted.{IsSorted};
+ghost use Rattle.domain_zone_laws.specs.Zone.{IsZone};
+
+mod encloser;
+mod nonexistent;
+mod outcome;
+mod referral;
+
+use crate::kept::Zone;
+use crate::lookup::encloser::is_beside;
+use crate::lookup::nonexistent::lookup_nonexistent;
+use crate::names::Owner;
+use domain_list::laws::order_laws;
+use domain_name::Name;
+use domain_zone_laws::find::place_of;
+use domain_zone_laws::reply::reply_at;
+use domain_zone_laws::zone::ZoneRecords;
+pub use outcome::{Answer, Substitution};
+
+/// What the records of a zone answer.
+fn lookup_records<'a>(
+    records: &'a ZoneRecords<Owner>,
+    name: &'a Name<&'a [u8]>,
+    rtype: u16,
+) -> Answer<'a>
+    requires zone { IsZone (records_view records.now) }
+    requires sorted { IsSorted (records_view records.now) }
+    ensures { Answers (records_view records.now) (name_labels name.now) rtype (outcome_of result) }
+{
+    order_laws();
+    if !name.ends_with(&records.apex) {
+        return Answer::OutOfZone;
+    }
+    let at = place_of(records, name, 0);
+    if let Some(cut) = referral::referral(records, at, name, rtype) {
+        return Answer::Referral(cut);
+    }
+    if is_beside(records, at, name) {
+        return Answer::Found(reply_at(records, name, rtype));
+    }
+    lookup_nonexistent(records, at, name, rtype)
+}
+
+impl Zone {
+    /// Returns what the zone answers to a question for records of a type at a name (RFC 1034, 4.3.2).
+    ///
+    /// The type may be ANY, 255. It allocates nothing. The RRsets are searched by halves: once for the name, which
+    /// also tells the closest encloser; for name servers at each name above it that exists; and a few times for what
+    /// is found.
+    pub fn lookup<'a>(&'a self, name: &'a Name<&'a [u8]>, rtype: u16) -> Answer<'a>
+        ensures { Answers (zone_view self.now) (name_labels name.now) rtype (outcome_of result) }
+    {
+        lookup_records(self.records(), name, rtype)
+    }
+}

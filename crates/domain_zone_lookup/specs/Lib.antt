@@ -1,3 +1,0 @@
-pub mod Beside
-pub mod Headers
-pub mod Outcomes

@@ -1,0 +1,20 @@
+use Rattle.std.proofs.Common.{ap, arith}
+use Rattle.examples.proofs.Built.{asks, is_answer, not_begun, not_asked_of, not_answered}
+use Rattle.examples.specs.Built.NotAnswered.{not_asked}
+use Rattle.examples.proofs.building.answer.Goals as goal
+
+pub returns-in-Err-clause-none : goal.returns-in-Err-clause-none
+returns-in-Err-clause-none g c none = not_asked (not_begun _ _ _ _ 512 _ (omega arith) c.in-Err.ensures.why)
+
+pub returns-in-Err-push_question-clause-none : goal.returns-in-Err-push_question-clause-none
+returns-in-Err-push_question-clause-none g c none =
+    not_asked (not_asked_of _ _ _ _ _ _ 512 _ _ _ c.in-Ok.ensures.ok c.set_header.ensures.header
+    (omega (arith, c.in-Ok.ensures.capacity, ap g.Target.Octets.capacity c.set_header.ensures.target)) c.in-Err-push_question.ensures.why)
+
+pub returns-in-Err-push-clause-none : goal.returns-in-Err-push-clause-none
+returns-in-Err-push-clause-none g c none =
+    not_answered _ _ _ _ _ _ _ _ 512 _ _ (asks _ _ _ 512 _ _ _ c.in-Ok.ensures.ok c.set_header.ensures.header c.in_default.ensures.ok)
+    (omega (arith, c.in-Ok.ensures.capacity, ap g.Target.Octets.capacity c.set_header.ensures.target, c.push_question.ensures.capacity)) c.in-Err-push.ensures.why
+
+pub returns-clause-ok : goal.returns-clause-ok
+returns-clause-ok g c = is_answer _ _ _ _ _ _ _ _ (asks _ _ _ 512 _ _ _ c.in-Ok.ensures.ok c.set_header.ensures.header c.in_default.ensures.ok) c.in_default-push.ensures.ok c.finish.ensures.message c.finish.ensures.octets c.finish.ensures.within
