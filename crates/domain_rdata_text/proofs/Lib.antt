@@ -18,7 +18,6 @@ pub mod Windows
 pub mod Holding
 pub mod Gathering
 pub mod Plainly
-pub mod Moving
 pub mod Standing
 pub mod Marking
 pub mod Taking
