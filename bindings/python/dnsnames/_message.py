@@ -2,7 +2,7 @@
 
 from __future__ import annotations
 
-from ctypes import byref, c_size_t, c_uint16, c_uint32, create_string_buffer
+from ctypes import byref, c_size_t, c_uint16, c_uint32, create_string_buffer, string_at
 from ipaddress import IPv4Address, IPv6Address
 from itertools import chain, islice
 from struct import Struct
@@ -126,7 +126,7 @@ class Record(NamedTuple):
     def to_text(self) -> str:
         """Its line as `dig` shows it: owner, time to live, class, type and data. Data that can't be read by its type are
         shown as octets, and why (RFC 3597, 5). Raises BadForm where the owner can't be read."""
-        status, text = _text(library.dnsnames_record_text, self.message, len(self.message), self.offset)
+        status, text = _text(library.dnsnames_record_text, len(self.data), self.message, len(self.message), self.offset)
         if status:
             refuse(status, self.offset)
         return text[:-1]
@@ -257,20 +257,17 @@ def _table(octets: bytes) -> Tuple[List[int], bytes]:
     return found
 
 
-# Room for the text of a usual message, so that most need one call.
-_TEXT = 4096
-
-
-def _text(call, *arguments) -> Tuple[int, str]:
-    """The status of a call and the text that it gives, with as much room as that needs."""
-    length, capacity = c_size_t(), _TEXT
+def _text(call, size: int, *arguments) -> Tuple[int, str]:
+    """The status of a call and the text that it gives of what has so many octets. One call has the room that a text of
+    ordinary names needs; a longer one is written again, with the room that the first call asked for."""
+    length, capacity = c_size_t(), 4096 + 8 * size
     while True:
         buffer = create_string_buffer(capacity)
         status = call(*arguments, buffer, capacity, byref(length))
         if status == NoRoom.status and length.value > capacity:
             capacity = length.value
             continue
-        return status, buffer.raw[: length.value].decode("ascii")
+        return status, string_at(buffer, min(length.value, capacity)).decode("ascii")
 
 
 class Message:
@@ -350,7 +347,7 @@ class Message:
         ;; QUESTION SECTION
         unexpected end of input (asked for at offset 0)
         """
-        status, text = _text(library.dnsnames_message_text, self._octets, len(self._octets))
+        status, text = _text(library.dnsnames_message_text, len(self._octets), self._octets, len(self._octets))
         if status:
             refuse(status, 0, text if status in FAULTS else None)
         return text
