@@ -5,6 +5,7 @@
 pub mod address_data;
 pub mod aliases;
 pub mod answers;
+pub mod any_records;
 pub mod authoritative;
 pub mod builders;
 pub mod building;
