@@ -124,7 +124,7 @@ fn types_of_window(alloc: Global, types: &[u16], window: u16) -> Result<Vec<u16>
     Ok(found)
 }
 
-/// Appends so many octets of the bitmap of a window, of which only the types of the window are looked at for each bit.
+/// Appends the first `len` octets of the bitmap of a window. Each bit is looked for among the types of that window.
 #[tactic(auto, using(crate::proofs::Windowing::same_bitmap))]
 fn append_own(
     alloc: Global,
@@ -257,7 +257,7 @@ pub(crate) enum Block {
     Ended,
     /// The window of one more.
     Window(u8),
-    /// A part of one. The first bit of the next octet is that of the type, and so many octets are to come.
+    /// A part of one. The first bit of the next octet is that of the type, and so many octets follow.
     Bitmap(u16, u8),
 }
 
