@@ -8,6 +8,7 @@ pub mod Ends
 pub mod Errors
 pub mod Finished
 pub mod Laws
+pub mod Marks
 pub mod Members
 pub mod Opt
 pub mod OptViews
@@ -15,6 +16,7 @@ pub mod Pointers
 pub mod Pushes
 pub mod Reading
 pub mod Refusals
+pub mod Rrsets
 pub mod SectionErrors
 pub mod SectionQuestions
 pub mod SectionRecords
