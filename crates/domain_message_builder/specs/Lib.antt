@@ -8,6 +8,7 @@ pub mod Ends
 pub mod Errors
 pub mod Finished
 pub mod Laws
+pub mod MarkedViews
 pub mod Marks
 pub mod Members
 pub mod Opt
