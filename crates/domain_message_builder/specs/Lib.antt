@@ -11,6 +11,7 @@ pub mod Laws
 pub mod MarkedViews
 pub mod Marks
 pub mod Members
+pub mod Needs
 pub mod Opt
 pub mod OptViews
 pub mod Pointers

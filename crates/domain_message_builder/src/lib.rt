@@ -12,6 +12,7 @@ pub mod marked_builder;
 pub mod opt;
 pub mod question_builder;
 pub mod record_builder;
+mod required;
 mod rrset;
 pub mod section;
 mod section_back;

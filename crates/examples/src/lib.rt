@@ -33,6 +33,7 @@ pub mod owners;
 pub mod program;
 pub mod reading;
 pub mod records;
+pub mod referring;
 pub mod sections;
 pub mod services;
 pub mod serving;

@@ -8,8 +8,8 @@ use Rattle.domain_message_builder.proofs.Marking.{back_at_place, longer, grows_n
 use Rattle.domain_message_builder.proofs.Sets.{members_of}
 use Rattle.domain_message_builder.proofs.builder.MessageBuilder.push_rrset.Goals as goal
 
-pub from_wire-requires : goal.from_wire-requires
-from_wire-requires g c = is_wire _ _ c.put_name-len.ensures.wire (g.met.N.Absolute.absolute c.args.owner.now)
+pub from_wire-name-requires : goal.from_wire-name-requires
+from_wire-name-requires g c = is_wire _ _ c.put_name-len.ensures.wire (g.met.N.Absolute.absolute c.args.owner.now)
 
 pub cut_back-requires-clause-inside : goal.cut_back-requires-clause-inside
 cut_back-requires-clause-inside g c = longer _ _ c.in-Err.ensures.grows
