@@ -4,14 +4,14 @@ use crate::messages::{ADDRESS, HEADER, QUESTION, address, begun, question, reads
 use crate::names::{WWW, absolute};
 use arrayvec::ArrayVec;
 use domain_compress::CompressComposer;
-use domain_data::A;
-use domain_header::{Class, Ttl};
-use domain_message::Section;
-use domain_message_builder::{MessageBuilder, PushError};
+use domain_data::{A, Ns};
+use domain_header::{Class, Rcode, Ttl};
+use domain_message::{Message, Section};
+use domain_message_builder::{MessageBuilder, OptBuilder, PushError};
 use domain_name::Name;
 use domain_rdata::Composer;
 use domain_wire::Ipv4Addr;
-use octseq::Octets;
+use octseq::{Octets, OctetsBuilder};
 use std::process::Abort;
 
 /// An address that ends so.
@@ -126,5 +126,82 @@ fn tc_is_for_what_is_required(rt: HostRuntime) {
         let early = message.push_required(Section::Answer, &root, class, ttl, rdata);
         let late = message.counts().arcount() > 0;
         assert!(rt; matches!(early, Err(PushError::Order)) == late);
+    }
+}
+
+/// A query for the address of `c.b.a`, with the bit RD.
+const QUERY: &[u8] = b"\x12\x34\x01\0\0\x01\0\0\0\0\0\0\x01c\x01b\x01a\0\0\x01\0\x01";
+
+/// Its question.
+const ASKED: &[u8] = b"\x01c\x01b\x01a\0\0\x01\0\x01";
+
+/// The servers `n.b.a` and `m.a` of `b.a` after it: the names `b.a` and `a` are at 14 and 16, and those of the servers
+/// at 35 and 51.
+const SERVERS: &[u8] = b"\xc0\x0e\0\x02\0\x01\0\0\x0e\x10\0\x04\x01n\xc0\x0e\
+\xc0\x0e\0\x02\0\x01\0\0\x0e\x10\0\x04\x01m\xc0\x10";
+
+/// Two addresses of the first.
+const GLUE: &[u8] = b"\xc0\x23\0\x01\0\x01\0\0\x0e\x10\0\x04\xc0\0\x02\x01\
+\xc0\x23\0\x01\0\x01\0\0\x0e\x10\0\x04\xc0\0\x02\x02";
+
+/// An address of the second.
+const OTHER: &[u8] = b"\xc0\x33\0\x01\0\x01\0\0\x0e\x10\0\x04\xc0\0\x02\x03";
+
+/// A referral to `b.a`, up to a limit that has room for the servers.
+fn referred(rt: &impl Abort, limit: u16) -> ArrayVec<u8, 120> {
+    let none: Option<&OptBuilder<&'static [u8]>> = None;
+    let (class, ttl) = (Class::from_int(1), Ttl::from_secs(3600));
+    let (glued, other) = (
+        absolute(rt, b"\x01n\x01b\x01a\0"),
+        absolute(rt, b"\x01m\x01a\0"),
+    );
+    let Ok(query) = Message::from_octets(QUERY) else {
+        panic!(rt; "no message");
+    };
+    let target = CompressComposer::new(ArrayVec::<u8, 120>::new());
+    let mut message = begun(rt, target, limit);
+    assert!(rt;
+        message
+            .start_answer(&query, Rcode::masked_from_int(0))
+            .is_ok()
+    );
+    let zone = absolute(rt, b"\x01b\x01a\0");
+    let rdata = [Ns::new(glued), Ns::new(other)];
+    let pushed = message.push_required(Section::Authority, &zone, class, ttl, &rdata);
+    assert!(rt; matches!(pushed, Ok(true)));
+    let section = Section::Additional;
+    let rdata = [ending_in(1), ending_in(2)];
+    assert!(rt;
+        message
+            .push_required(section, &glued, class, ttl, &rdata)
+            .is_ok()
+    );
+    assert!(rt;
+        message
+            .push_extra(section, &other, class, ttl, &[ending_in(3)])
+            .is_ok()
+    );
+    match message.finish_or_truncate(Ok(()), none) {
+        Ok(made) => made.into_target(),
+        Err(_) => panic!(rt; "not finished"),
+    }
+}
+
+/// Glue that has no room sets TC (RFC 9471, 3), and another address that has none is left out (RFC 2181, 9).
+#[test]
+fn glue_that_has_no_room_sets_tc(rt: HostRuntime) {
+    for limit in 55..=110u16 {
+        let (flags, count, glue, other) = match limit {
+            55..=70 => (0x83, 0, b"".as_slice(), b"".as_slice()),
+            71..=86 => (0x83, 1, b"".as_slice(), OTHER),
+            87..=102 => (0x81, 2, GLUE, b"".as_slice()),
+            _ => (0x81, 3, GLUE, OTHER),
+        };
+        let header = [0x12, 0x34, flags, 0, 0, 1, 0, 0, 0, 2, 0, count];
+        let mut wanted = ArrayVec::<u8, 120>::new();
+        for part in [header.as_slice(), ASKED, SERVERS, glue, other] {
+            assert!(rt; wanted.append_slice(part).is_ok());
+        }
+        assert!(rt; referred(&rt, limit).as_slice() == wanted.as_slice());
     }
 }
