@@ -6,11 +6,14 @@ use Rattle.domain_header.specs.declared.class.Class.{Class}
 use Rattle.domain_header.specs.declared.ttl.Ttl.{Ttl}
 use Rattle.domain_message.specs.declared.section.Section.{Section}
 use Rattle.domain_rdata.specs.Members.{DataMembers, Writing}
-use Rattle.domain_message_builder.specs.Contents.{RecordHead}
+use Rattle.domain_message.specs.declared.section.Section.TheVariants.{Answer, Authority, Additional}
+use Rattle.domain_message_builder.specs.Contents.{RecordHead, PushedRecord, Content, Holds}
 use Rattle.domain_message_builder.specs.Marks.{Grows}
-use Rattle.domain_message_builder.specs.Pushes.{PushesRecord}
-use Rattle.domain_message_builder.specs.Rrsets.{InTurn, FirstRefused}
+use Rattle.domain_message_builder.specs.Pushes.{PushesRecord, SameSettings, record_added}
+use Rattle.domain_message_builder.specs.Rrsets.{InTurn, FirstRefused, OneForEach, IsRecordOf, records_added, set_head, PushesOfSet, AddsInTurn, AddsRrset}
 use Rattle.domain_message_builder.specs.State.{State}
+use Rattle.domain_message_builder.specs.Views.{state_of}
+use Rattle.domain_message_builder.specs.declared.builder.MessageBuilder.{MessageBuilder}
 
 -- what a clause has as `D.ComposeRecordData`, of what the traits tell one by one
 abbrev pub members_of : {D : Type 0} → (D → ℕ) → (D → Bool → List ℕ → List ℕ → Type 0) → (D → Writing) → (D → List ℕ) → (D → Option (List ℕ)) → (D → Bool → Bool) → DataMembers D
@@ -67,9 +70,55 @@ of_parts {n = n} {m = m} {a = a} {b = b} {t = t} {u = u} {x = x} {y = y} en ea e
 pub grows_by : (c : Bool) (section : Section) (head : RecordHead) (May : List ℕ → List ℕ → Type 0) (old new : State) → PushesRecord c section head May old new → Grows old new
 grows_by c section head May old new pushed = record { octets = pushed.octets.octets; all = pushed.octets.all; settings = pushed.settings }
 
-error_or : {A E : Type 0} → E → Result A E → E
+abbrev error_or : {A E : Type 0} → E → Result A E → E
 error_or d (Ok x) = d
 error_or d (Err e) = e
 
-pub same_error : {A E : Type 0} (e f : E) → Err {A} {E} e ≡ Err f → e ≡ f
+abbrev pub refusal : (A E : Type 0) → E → Result A E
+refusal A E e = Err e
+
+pub same_error : {A E : Type 0} (e f : E) → refusal A E e ≡ refusal A E f → e ≡ f
 same_error e f same = ap (error_or e) same
+
+-- ---- what the builder holds then
+
+none_added : (section : Section) (it : Content) → records_added section it [] ≡ it
+none_added Answer it = ap (λ l. record it { answers = l }) (append-nil it.answers)
+none_added Authority it = ap (λ l. record it { authority = l }) (append-nil it.authority)
+none_added Additional it = ap (λ l. record it { additional = l }) (append-nil it.additional)
+
+first_added : (section : Section) (it : Content) (r : PushedRecord) (rs : List PushedRecord) → records_added section (record_added section it r) rs ≡ records_added section it (r ∷ rs)
+first_added Answer it r rs = ap (λ l. record it { answers = l }) (append_assoc it.answers (r ∷ []) rs)
+first_added Authority it r rs = ap (λ l. record it { authority = l }) (append_assoc it.authority (r ∷ []) rs)
+first_added Additional it r rs = ap (λ l. record it { additional = l }) (append_assoc it.additional (r ∷ []) rs)
+
+-- Each that was pushed is held, in its order.
+pub holds_set : {S D : Type 0} (seen : S → State) (c : Bool) (section : Section) (head : D → RecordHead) (May : D → List ℕ → List ℕ → Type 0) (Does : D → S → S → Type 0)
+    → ((x : D) (a b : S) → Does x a b → PushesRecord c section (head x) (May x) (seen a) (seen b))
+    → (xs : List D) (old new : S) → InTurn Does xs old new → (it : Content) → Holds c (seen old) it
+    → (rs : List PushedRecord) × OneForEach (λ x. IsRecordOf (head x) (May x)) xs rs × Holds c (seen new) (records_added section it rs)
+holds_set seen c section head May Does pushes [] old new done it held =
+    ([], refl, subst (λ s. Holds c (seen s) (records_added section it [])) (sym done) (subst (λ i. Holds c (seen old) i) (sym (none_added section it)) held))
+holds_set seen c section head May Does pushes (x ∷ xs) old new done it held =
+    let p = pushes x old done.0 done.1 in
+    let r : PushedRecord = record { head = head x; rdata = p.octets.allowed.rdata } in
+    let is : IsRecordOf (head x) (May x) r = record { head_is = refl; before = _; allowed = p.octets.allowed.data_allowed } in
+    let rest = holds_set seen c section head May Does pushes xs done.0 new done.2 (record_added section it r) (p.holds it held) in
+    (r ∷ rest.0, (r, rest.0, refl, is, rest.1), subst (λ i. Holds c (seen new) i) (first_added section it r rest.0) rest.2)
+
+-- Neither the header nor the limit changes.
+pub settings_kept : {S D : Type 0} (seen : S → State) (Does : D → S → S → Type 0) → ((x : D) (a b : S) → Does x a b → SameSettings (seen a) (seen b))
+    → (xs : List D) (old new : S) → InTurn Does xs old new → SameSettings (seen old) (seen new)
+settings_kept seen Does same [] old new done = subst (λ s. SameSettings (seen old) (seen s)) (sym done) (record { header = refl; limit = refl; reserved = refl })
+settings_kept seen Does same (x ∷ xs) old new done =
+    let first = same x old done.0 done.1 in
+    let rest = settings_kept seen Does same xs done.0 new done.2 in
+    record { header = rest.header ∙ first.header; limit = rest.limit ∙ first.limit; reserved = rest.reserved ∙ first.reserved }
+
+-- What was pushed in turn is an RRset of the message.
+pub added : {T E D : Type 0} {g : _} {h : _} {i : _} {j : _} {k : _} {l : _} (d : DataMembers D) (section : Section) (owner : List (List ℕ)) (class : Class) (ttl : Ttl) (xs : List D) (old new : MessageBuilder T E g h i j k l) → AddsInTurn d section owner class ttl xs old new → AddsRrset d section owner class ttl xs old new
+added {g = g} {j = j} d section owner class ttl xs old new in_turn = (
+  in_turn,
+  holds_set (state_of j.octets) g.compresses section (λ x. set_head owner (d.type_number x) class ttl) (λ x. d.composed x g.compresses) (PushesOfSet d section owner class ttl) (λ x a b does. does.0) xs old new in_turn,
+  settings_kept (state_of j.octets) (PushesOfSet d section owner class ttl) (λ x a b does. does.0.settings) xs old new in_turn,
+)

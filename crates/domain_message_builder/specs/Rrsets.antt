@@ -1,6 +1,6 @@
 -- What contracts say about a push of an RRset: records of one owner, class and type, and of one TTL (RFC 2181, 5 and
 -- 5.2). `d` is `D.ComposeRecordData`, `owner` has the labels of the owner's name, and `g` to `l` are as in `Builders`.
-use Rattle.std.specs.Prelude.{◌≡◌, ℕ, ◌≤◌, true, List, [], ◌∷◌, ◌++◌}
+use Rattle.std.specs.Prelude.{◌≡◌, ℕ, ◌≤◌, Bool, true, List, [], ◌∷◌, ◌++◌}
 use Rattle.domain_header.specs.Values.{class_number, ttl_seconds}
 use Rattle.domain_header.specs.declared.class.Class.{Class}
 use Rattle.domain_header.specs.declared.ttl.Ttl.{Ttl}
@@ -8,12 +8,13 @@ use Rattle.domain_message.specs.Composing.{before_length}
 use Rattle.domain_message.specs.LeftToTarget.{NameThenData}
 use Rattle.domain_message.specs.MayCompose.{IsNameThen, RefusesRecord}
 use Rattle.domain_message.specs.declared.section.Section.{Section}
+use Rattle.domain_message.specs.declared.section.Section.TheVariants.{Answer, Authority, Additional}
 use Rattle.domain_rdata.specs.Members.{DataMembers}
 use Rattle.domain_rdata.specs.RecordData.{ComposeRefused}
 use Rattle.domain_message_builder.specs.BuilderEntries.{most_octets}
 use Rattle.domain_message_builder.specs.Builders.{state, target_room, KeepsMemory, HasLater, HasNoLater, IsFull}
-use Rattle.domain_message_builder.specs.Contents.{RecordHead}
-use Rattle.domain_message_builder.specs.Pushes.{PushesRecord}
+use Rattle.domain_message_builder.specs.Contents.{RecordHead, PushedRecord, Content, Holds}
+use Rattle.domain_message_builder.specs.Pushes.{PushesRecord, SameSettings}
 use Rattle.domain_message_builder.specs.Refusals.{RecordRefused}
 use Rattle.domain_message_builder.specs.Tight.{Surpasses, RefusedAsWritten}
 use Rattle.domain_message_builder.specs.Views.{target_of}
@@ -35,6 +36,23 @@ pub record FirstRefused {V S : Type 0} (Does : V → S → S → Type 0) (Refuse
   pub mid : S
   pub done : InTurn Does before old mid
   pub refused : Refuses it mid
+
+-- records more, in a section
+abbrev pub records_added : Section → Content → List PushedRecord → Content
+records_added Answer it rs = record it { answers = it.answers ++ rs }
+records_added Authority it rs = record it { authority = it.authority ++ rs }
+records_added Additional it rs = record it { additional = it.additional ++ rs }
+
+-- There is one of these for each of those, in their order.
+abbrev pub OneForEach : {V W : Type 0} → (V → W → Type 0) → List V → List W → Type 0
+OneForEach Is [] rs = rs ≡ []
+OneForEach {W = W} Is (x ∷ xs) rs = (r : W) × (rest : List W) × (rs ≡ r ∷ rest) × Is x r × OneForEach Is xs rest
+
+-- A record that was pushed has this head, and octets that `May` allows after others as its data.
+pub record IsRecordOf (head : RecordHead) (May : List ℕ → List ℕ → Type 0) (r : PushedRecord) : Type 0 where
+  pub head_is : r.head ≡ head
+  pub before : List ℕ
+  pub allowed : May before r.rdata
 
 -- what a record of the set says before the length of its data
 abbrev pub set_head : List (List ℕ) → ℕ → Class → Ttl → RecordHead
@@ -83,10 +101,28 @@ RefusesOfSet {g = g} d section owner class ttl e x b =
     × (g.compresses ≡ true → OfSetDoesNotFit d owner class ttl x b e)
     × (HasLater section b → e ≡ Order) × (HasNoLater section b → IsFull section b → e ≡ Count)
 
+-- A record of a message is that of the set with this data.
+abbrev pub IsOfSet : {D : Type 0} → DataMembers D → Bool → List (List ℕ) → Class → Ttl → D → PushedRecord → Type 0
+IsOfSet d compresses owner class ttl x = IsRecordOf (set_head owner (d.type_number x) class ttl) (d.composed x compresses)
+
+-- Whatever the builder held, it holds the records of the set after it, in this section.
+abbrev pub HoldsRrset : {T E D : Type 0} {g : _} {h : _} {i : _} {j : _} {k : _} {l : _}
+    → DataMembers D → Section → List (List ℕ) → Class → Ttl → List D → MessageBuilder T E g h i j k l → MessageBuilder T E g h i j k l → Type 0
+HoldsRrset {g = g} d section owner class ttl xs old new =
+    (it : Content) → Holds g.compresses (state old) it
+    → (rs : List PushedRecord) × OneForEach (IsOfSet d g.compresses owner class ttl) xs rs × Holds g.compresses (state new) (records_added section it rs)
+
 -- The records of the set were pushed into the section, in their order.
+abbrev pub AddsInTurn : {T E D : Type 0} {g : _} {h : _} {i : _} {j : _} {k : _} {l : _}
+    → DataMembers D → Section → List (List ℕ) → Class → Ttl → List D → MessageBuilder T E g h i j k l → MessageBuilder T E g h i j k l → Type 0
+AddsInTurn d section owner class ttl xs old new = InTurn (PushesOfSet d section owner class ttl) xs old new
+
+-- The same. The builder holds them, and header, limit and what is set aside are as before.
 abbrev pub AddsRrset : {T E D : Type 0} {g : _} {h : _} {i : _} {j : _} {k : _} {l : _}
     → DataMembers D → Section → List (List ℕ) → Class → Ttl → List D → MessageBuilder T E g h i j k l → MessageBuilder T E g h i j k l → Type 0
-AddsRrset d section owner class ttl xs old new = InTurn (PushesOfSet d section owner class ttl) xs old new
+AddsRrset d section owner class ttl xs old new =
+    AddsInTurn d section owner class ttl xs old new
+    × HoldsRrset d section owner class ttl xs old new × SameSettings (state old) (state new)
 
 -- Why they weren't: the first that was refused after those before it.
 abbrev pub RrsetNotAdded : {T E D : Type 0} {g : _} {h : _} {i : _} {j : _} {k : _} {l : _}

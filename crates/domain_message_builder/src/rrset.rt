@@ -3,7 +3,7 @@ ghost use Rattle.std.specs.Prelude.{◌≡◌, ◌≤◌, OnOk, OnErr, IfErr};
 ghost use Rattle.domain_name.specs.Names.{name_labels};
 ghost use Rattle.domain_message_builder.specs.Builders.{state, target_room, target_memory, KeepsMemory};
 ghost use Rattle.domain_message_builder.specs.Marks.{Grows};
-ghost use Rattle.domain_message_builder.specs.Rrsets.{AddsRrset, RrsetNotAdded};
+ghost use Rattle.domain_message_builder.specs.Rrsets.{AddsInTurn, AddsRrset, RrsetNotAdded};
 
 use crate::builder::MessageBuilder;
 use crate::error::PushError;
@@ -59,10 +59,10 @@ impl<Target: Composer> MessageBuilder<Target> {
         ttl: Ttl,
         rdata: &[D],
     ) -> Result<(), PushError<Target::AppendError>>
-        ensures ok { OnOk result (AddsRrset D.ComposeRecordData section (name_labels owner) class
-            ttl rdata.now self.old self.new) }
-        ensures why { IfErr result (RrsetNotAdded D.ComposeRecordData section (name_labels owner)
-            class ttl rdata.now self.old) }
+        ensures ok { OnOk result (AddsInTurn D.ComposeRecordData section
+            (name_labels owner.entry) class ttl rdata.now self.old self.new) }
+        ensures why { IfErr result (RrsetNotAdded D.ComposeRecordData section
+            (name_labels owner.entry) class ttl rdata.now self.old) }
         ensures grows { Grows (state self.old) (state self.new) }
         ensures memory { KeepsMemory self.old self.new }
         ensures capacity { target_room self.old ≤ target_room self.new }

@@ -27,9 +27,8 @@ loop-item-preserved g c =
     let new = c.push.new.self in
     let made = c.new-resource.ensures in
     let adds = of_parts made.owner made.class made.ttl made.rdata (λ o a t x. AddsOfSet d c.args.section (name_labels o) a t x.now mid new) c.in_default.ensures.ok in
-    let leaves = λ compressing. of_parts made.owner made.class made.ttl made.rdata (λ o a t x. LeavesOfSet d (name_labels o) a t x.now mid new) (c.in_default.ensures.written compressing) in
     record {
-      progress = progress_step Does _ _ _ _ mid new c.loop-item.invariant.progress c.loop-item-test.true (subst (λ x. Does x mid new) c.item-item.is (adds, leaves, c.push.ensures.memory, c.push.ensures.capacity));
+      progress = progress_step Does _ _ _ _ mid new c.loop-item.invariant.progress c.loop-item-test.true (subst (λ x. Does x mid new) c.item-item.is (adds, λ compressing. of_parts made.owner made.class made.ttl made.rdata (λ o a t x. LeavesOfSet d (name_labels o) a t x.now mid new) (c.in_default.ensures.written compressing), c.push.ensures.memory, c.push.ensures.capacity));
       grows = grows_more _ _ _ c.loop-item.invariant.grows (grows_by _ _ _ _ _ _ c.in_default.ensures.ok);
       kept = kept_through g.Target.Composer.kept_within _ _ _ _ _ g.met.Target.Composer.kept_twice (longer _ _ c.loop-item.invariant.grows) c.loop-item.invariant.kept c.push.ensures.memory;
       room = omega (arith, c.loop-item.invariant.room, c.push.ensures.capacity);
@@ -45,9 +44,8 @@ returns-in-Err-clause-why g c =
     let made = c.new-resource.ensures in
     let comp = g.Target.Composer.compresses in
     let refused = of_parts made.owner made.class made.ttl made.rdata (λ o a t x. RecordRefused comp c.args.section (set_head (name_labels o) (g.D.RecordData.type_number x.now) a t) (g.D.ComposeRecordData.composed x.now comp) (state mid) (target_room mid) e) c.in-Err.ensures.why in
-    let tight = λ compressing. of_parts made.owner made.class made.ttl made.rdata (λ o a t x. OfSetDoesNotFit d (name_labels o) a t x.now mid e) (c.in-Err.ensures.tight compressing) in
     progress_refused Does Refuses _ _ _ _ mid c.loop-item.invariant.progress c.loop-item-test.true
-    (subst (λ x. Refuses x mid) c.item-item.is (refused, tight, λ later. same_error e Order (c.in-Err.ensures.order later), λ none full. same_error e Count (c.in-Err.ensures.count none full)))
+    (subst (λ x. Refuses x mid) c.item-item.is (refused, λ compressing. of_parts made.owner made.class made.ttl made.rdata (λ o a t x. OfSetDoesNotFit d (name_labels o) a t x.now mid e) (c.in-Err.ensures.tight compressing), λ later. same_error e Order (c.in-Err.ensures.order later), λ none full. same_error e Count (c.in-Err.ensures.count none full)))
 
 pub returns-in-Err-clause-grows : goal.returns-in-Err-clause-grows
 returns-in-Err-clause-grows g c = subst (λ s. Grows (state_of g.Target.Octets.octets c.args.self.now) s) (sym c.in-Err.ensures.unchanged) c.loop-item.invariant.grows

@@ -6,7 +6,7 @@ use Rattle.domain_message_builder.proofs.marked_builder.MarkedBuilder.rewind.Goa
 
 pub invariant_of-self : goal.invariant_of-self
 invariant_of-self g c = record {
-  inside = mark_inside c.args.self.now.mark _ _ c.args.self.now.inside c.cut_back.ensures.state;
+  inside = mark_inside c.args.self.now.mark (state_of g.Target.Octets.octets c.args.self.now.builder) (state_of g.Target.Octets.octets c.cut_back.new.self) c.args.self.now.inside c.cut_back.ensures.state;
   ordered = c.args.self.now.ordered;
 }
 
@@ -14,7 +14,7 @@ pub returns-clause-memory : goal.returns-clause-memory
 returns-clause-memory g c = g.met.Target.Composer.cut_keeps _ _ c.args.self.now.mark.len c.cut_back.ensures.cut
 
 pub returns-clause-marked : goal.returns-clause-marked
-returns-clause-marked g c = mark_stays_there c.args.self.now.mark _ _ c.cut_back.ensures.state
+returns-clause-marked g c = mark_stays_there c.args.self.now.mark (state_of g.Target.Octets.octets c.args.self.now.builder) (state_of g.Target.Octets.octets c.cut_back.new.self) c.cut_back.ensures.state
 
 pub returns-clause-marked_memory : goal.returns-clause-marked_memory
 returns-clause-marked_memory g c =
