@@ -8,7 +8,7 @@ use Rattle.domain_message.specs.Entries.{QuestionFields}
 use Rattle.domain_message.specs.declared.section.Section.{Section}
 use Rattle.domain_message_builder.specs.Contents.{blank_header, RecordHead}
 use Rattle.domain_message_builder.specs.Marks.{place_of, state_at, Grows}
-use Rattle.domain_message_builder.specs.Pushes.{SameSettings, PushesRecord, PushesQuestion}
+use Rattle.domain_message_builder.specs.Pushes.{PushesRecord, PushesQuestion}
 use Rattle.domain_message_builder.specs.SectionStarts.{IsInOrder}
 use Rattle.domain_message_builder.specs.State.{State}
 use Rattle.domain_message_builder.specs.declared.mark.Mark.{Mark}

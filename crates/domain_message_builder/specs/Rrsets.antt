@@ -6,7 +6,7 @@ use Rattle.domain_header.specs.declared.class.Class.{Class}
 use Rattle.domain_header.specs.declared.ttl.Ttl.{Ttl}
 use Rattle.domain_message.specs.Composing.{before_length}
 use Rattle.domain_message.specs.LeftToTarget.{NameThenData}
-use Rattle.domain_message.specs.MayCompose.{IsNameThen, RefusesRecord}
+use Rattle.domain_message.specs.MayCompose.{RefusesRecord}
 use Rattle.domain_message.specs.declared.section.Section.{Section}
 use Rattle.domain_message.specs.declared.section.Section.TheVariants.{Answer, Authority, Additional}
 use Rattle.domain_rdata.specs.Members.{DataMembers}

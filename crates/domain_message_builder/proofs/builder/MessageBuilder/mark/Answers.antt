@@ -1,6 +1,6 @@
-use Rattle.std.proofs.Common.{◌∙◌, ap, arith}
+use Rattle.std.proofs.Common.{◌∙◌, ap}
 use Rattle.domain_message_builder.proofs.Marking.{at_own_place}
-use Rattle.domain_message_builder.specs.Views.{state_of, target_of}
+use Rattle.domain_message_builder.specs.Views.{target_of}
 use Rattle.domain_message_builder.proofs.builder.MessageBuilder.mark.Goals as goal
 
 pub returns-clause-marked : goal.returns-clause-marked
