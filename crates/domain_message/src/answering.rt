@@ -50,8 +50,8 @@ fn same_questions<'a>(ours: &'a [u8], theirs: &'a [u8], count: u16) -> bool
 }
 
 impl<Octs: Octets> Message<Octs> {
-    /// Returns whether this message answers the query: it is a response with the query's identifier and opcode, and has
-    /// the query's questions, in their order and with their names ignoring ASCII case (RFC 1035, 4.1.1 and 7.3).
+    /// Returns whether this message answers the query: it is a response with the query's identifier and opcode, and
+    /// has the query's questions, in their order and with their names ignoring ASCII case (RFC 1035, 4.1.1 and 7.3).
     ///
     /// A message with a question missing answers none, and none answers it. A response without a question answers only
     /// a query without one: of a zone transfer in several messages, the later ones can be such responses (RFC 5936,
