@@ -301,7 +301,7 @@ export class DnsNames {
         if (status !== NO_MORE) throw new NameFault(status, record.dataOffset);
     }
 
-    /** Whether a message answers a query: a response with the query's identifier and the query's questions. ShortInput. */
+    /** Whether a message answers a query: a response with the query's identifier, opcode and questions. ShortInput. */
     isAnswer(message, query) {
         const slices = this.#begin(message, query);
         const [yes] = this.#results(1);

@@ -1,10 +1,9 @@
 #!/usr/bin/python3 -B
 """What following the CNAME records of messages costs, counted, and which messages cost most.
 
-For each message it has its octets, its records, how often `canonical_name` reads the answers and their records, how
-many labels and pointers the owners of these have, and the records with a limit of 16. It makes messages of two kinds,
-of each with all its parameters, and takes the one that costs most: in records, in labels and pointers, and with the
-limit.
+For each message it has its octets, its records, how often `canonical_name` with a limit of 16 reads the answers and
+their records, and how many labels and pointers the owners of these have. It makes messages of two kinds, of each with
+all its parameters, and takes those that cost most, in records and in labels and pointers.
 
 - A chain leads from the question's name along names of a few octets, in order or backwards. Its names end in the root
   or in a base, and the base is read through no or many pointers.
@@ -12,10 +11,9 @@ limit.
   records or not, of the root or of a name that is read through many pointers, without data or with a name.
 
 By itself it prints them. `cost` puts them into its page. Nothing is measured: the counts are of the octets of each
-message, as domain_message follows them. The first look goes to the end and counts the CNAME records, whatever their
-data is; each of as many looks at most goes up to the record that it finds. No message can cost more than a look at
-each record for each record, and the first, of eleven octets each. The worst that is found comes within one in a
-thousand of that.
+message, as domain_message follows them. Each look goes up to the record that it finds, or to the end. There is one
+look more than the limit at most. So no message can cost more than that many looks at all records, of eleven octets
+each. The worst that is found comes within one in a hundred of that.
 """
 import functools
 import itertools
@@ -40,7 +38,6 @@ class Cost(NamedTuple):
     looks: int
     read: int
     heads: int
-    limited: int
 
 
 def header(answers):
@@ -147,30 +144,21 @@ def cost(made):
             at += 1 + message[at]
         return at + 1 + (message[at] >= 192)
 
-    found, heads, cnames, at = {}, [0], 0, name_end(12) + 4
+    found, heads, at = {}, [0], name_end(12) + 4
     for place in range(1, count + 1):
         end = name_end(at)
         owner, data = name(at), end + 10
         heads.append(heads[-1] + owner[1])
         at = data + int.from_bytes(message[end + 8:data], "big")
-        if message[end:end + 2] == CNAME:
-            cnames += 1
-            if at > data and name_end(data) == at:
-                found.setdefault(owner[0], (place, name(data)[0]))
+        if message[end:end + 2] == CNAME and at > data and name_end(data) == at:
+            found.setdefault(owner[0], (place, name(data)[0]))
     assert at == len(message), (at, len(message))
 
-    def follow(looks):
-        """How far each look goes from the name of the question, at most so many."""
-        labels, places = name(12)[0], []
-        while len(places) < looks:
-            place, labels = found.get(labels, (count, None))
-            places.append(place)
-            if labels is None:
-                break
-        return places
-
-    places = [count, *follow(cnames + 1)[1:]]
-    return Cost(len(message), count, len(places), sum(places), sum(heads[it] for it in places), sum(follow(LIMIT + 1)))
+    labels, places = name(12)[0], []
+    while labels is not None and len(places) <= LIMIT:
+        place, labels = found.get(labels, (count, None))
+        places.append(place)
+    return Cost(len(message), count, len(places), sum(places), sum(heads[it] for it in places))
 
 
 def messages(size):
@@ -188,12 +176,12 @@ def messages(size):
 
 @functools.lru_cache(maxsize=None)
 def worst(size):
-    """Of the messages of this size those that make most records, most labels, and with a limit most records read, and
-    the chain that makes most records read. Each is what it is, and its cost."""
+    """Of the messages of this size those that make most records and most labels read, and the chain that makes most
+    records read. Each is what it is, and its cost."""
     costs = [(text, cost(made)) for text, made in messages(size)]
     chains = [it for it in costs if it[0].startswith("a chain")]
     return (max(costs, key=lambda it: it[1].read), max(costs, key=lambda it: it[1].heads),
-            max(costs, key=lambda it: it[1].limited), max(chains, key=lambda it: it[1].read))
+            max(chains, key=lambda it: it[1].read))
 
 
 def counted():

@@ -307,8 +307,8 @@ class Message:
         return Header(found.id, found.flags, found.questions, found.answers, found.authority, found.additional)
 
     def is_answer_to(self, query: Message) -> bool:
-        """Whether this is a response with the query's identifier and the query's questions. Raises ShortInput where one of
-        the two has fewer than 12 octets."""
+        """Whether this is a response with the query's identifier, opcode and questions. Raises ShortInput where one of the
+        two has fewer than 12 octets."""
         yes = c_uint32()
         status = library.dnsnames_is_answer(
             self._octets, len(self._octets), query._octets, len(query._octets), byref(yes)

@@ -129,7 +129,7 @@ impl<'a> Message<'a> {
         read(self.octets, offset, MAX_POINTERS, buffer)
     }
 
-    /// Whether this message answers the query: a response with the query's identifier and the query's questions.
+    /// Whether this message answers the query: a response with the query's identifier, opcode and questions.
     /// `ShortInput` where one of the two has fewer than 12 octets.
     pub fn is_answer(&self, query: &Message<'_>) -> Result<bool, Fault> {
         let mut yes = 0;

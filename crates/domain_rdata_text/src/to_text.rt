@@ -160,8 +160,8 @@ fn are_none(values: &[Value]) -> bool
     }
 }
 
-/// Whether data with these values is written field by field: each has a text, and none but the last takes all remaining
-/// words.
+/// Whether data with these values is written field by field: each has a text, and none but the last takes all
+/// remaining words.
 fn are_in_fields(values: &[Value]) -> bool
     ensures { result ≡ in_fields (vals_of values.now) }
 {
