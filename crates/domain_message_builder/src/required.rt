@@ -39,6 +39,7 @@ impl<Target: Composer> MessageBuilder<Target> {
         ensures memory_unchanged { IfOk result (λ pushed. pushed ≡ false →
             target_memory self.new ≡ target_memory self.old) }
         ensures unchanged { OnErr result (state self.new ≡ state self.old) }
+        ensures limit { (state self.new).limit ≡ (state self.old).limit }
         ensures capacity { target_room self.old ≤ target_room self.new }
     {
         match self.push_rrset(section, owner, class, ttl, rdata) {
@@ -76,6 +77,7 @@ impl<Target: Composer> MessageBuilder<Target> {
         ensures memory_unchanged { IfOk result (λ pushed. pushed ≡ false →
             target_memory self.new ≡ target_memory self.old) }
         ensures unchanged { OnErr result (state self.new ≡ state self.old) }
+        ensures limit { (state self.new).limit ≡ (state self.old).limit }
         ensures capacity { target_room self.old ≤ target_room self.new }
     {
         let Err(e) = self.push_rrset(section, owner, class, ttl, rdata) else {

@@ -1,5 +1,5 @@
 //! Referrals whose glue may have no room (RFC 9471, 3).
-ghost use Rattle.std.specs.Prelude.{◌<◌, length, IsNone};
+ghost use Rattle.std.specs.Prelude.{◌<◌, ◌≤◌, length, IfSome, IsNone};
 
 use domain_data::{A, Ns};
 use domain_header::{Class, Rcode, Ttl};
@@ -25,13 +25,14 @@ pub fn whole_referral<'a, N, Octs: Octets, Options: Octets, Target: Composer + D
     limit: u16,
     query: &Message<Octs>,
     zone: &'a N,
-    servers: &[Ns<Name<&'static [u8]>>],
-    glue: Host<'_>,
-    other: Host<'_>,
+    servers: &[Ns<Name<&'a [u8]>>],
+    glue: Host<'a>,
+    other: Host<'a>,
     opt: &OptBuilder<Options>,
 ) -> Option<Target>
 where
     N: AbsoluteLabels<'a>,
+    ensures short { IfSome result (λ made. length (Target.octets made) ≤ limit) }
     ensures not_empty { 0 < length (Target.octets target) → IsNone result }
 {
     let mut message = match MessageBuilder::with_limit(target, limit) {
