@@ -104,7 +104,10 @@ fn a_message_goes_back_to_its_mark(rt: HostRuntime) {
     );
     let octets = message.finish().into_target();
     reads(&rt, octets.as_slice(), [1, 2, 0, 0]);
-    assert!(rt; &octets.as_slice()[32..49] == WWW);
+    let Some((_, after)) = octets.as_slice().split_at_checked(32) else {
+        panic!(rt; "no second answer");
+    };
+    assert!(rt; after.starts_with(WWW));
 }
 
 /// TC is set where a required RRset has no room, and where another has none it isn't.
@@ -199,7 +202,8 @@ fn glue_that_has_no_room_sets_tc(rt: HostRuntime) {
         };
         let header = [0x12, 0x34, flags, 0, 0, 1, 0, 0, 0, 2, 0, count];
         let mut wanted = ArrayVec::<u8, 120>::new();
-        for part in [header.as_slice(), ASKED, SERVERS, glue, other] {
+        assert!(rt; wanted.append_slice(&header).is_ok());
+        for part in [ASKED, SERVERS, glue, other] {
             assert!(rt; wanted.append_slice(part).is_ok());
         }
         assert!(rt; referred(&rt, limit).as_slice() == wanted.as_slice());
