@@ -20,7 +20,7 @@ abbrev pub members_of : {D : Type 0} → (D → ℕ) → (D → Bool → List �
 members_of number composed written uncompressed lowercase knows_len =
     record { type_number = number; composed = composed; written = written; uncompressed = uncompressed; lowercase = lowercase; knows_len = knows_len }
 
--- Those before the ones that are left were done.
+-- Those before the rest were done.
 pub record Progress {V S : Type 0} (Does : V → S → S → Type 0) (all left : List V) (old now : S) : Type 0 where
   pub before : List V
   pub split : all ≡ before ++ left
