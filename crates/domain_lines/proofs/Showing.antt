@@ -16,7 +16,7 @@ use Rattle.domain_message.specs.RunFacts.{run_and}
 use Rattle.domain_message.specs.Sections.{Run, counted_records}
 use Rattle.domain_message.specs.declared.section.Section.{Section}
 use Rattle.domain_message.specs.declared.section.Section.TheVariants.{Answer, Authority, Additional}
-use Rattle.domain_tool.specs.Engines.{IfRefused, OnAnswer}
+use Rattle.domain_tool.specs.Engines.{IfRefused}
 use Rattle.domain_tool.specs.declared.tool.ToolError.{ToolError}
 use Rattle.domain_tool.specs.declared.tool.ToolError.TheVariants.{Parse, Text, Read, Write, Memory}
 use Rattle.domain_lines.specs.Flags.{flag_text}
@@ -57,15 +57,6 @@ refused_so (Err (Text e)) P Q so x = x
 refused_so (Err Read) P Q so x = tt
 refused_so (Err Write) P Q so x = tt
 refused_so (Err Memory) P Q so x = tt
-
--- what holds of an answer, since it holds
-pub answered : {P : Type 0} (r : Result (Unit {0}) ToolError) → P → OnAnswer r P
-answered (Ok done) x = x
-answered (Err (Parse e)) x = x
-answered (Err (Text e)) x = x
-answered (Err Read) x = tt
-answered (Err Write) x = tt
-answered (Err Memory) x = tt
 
 -- the word of a flag
 pub flag_is : (set : Bool) (flag : ℕ) (word shown : List ℕ) → (IsTrue set ↔ (flag ≡ 1)) → shown ≡ cond set word [] → shown ≡ flag_text flag word

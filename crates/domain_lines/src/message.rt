@@ -1,26 +1,23 @@
 //! A message, shown in presentation format: the header, the questions, and the records of each section.
 ghost use Rattle.std.specs.Prelude.{◌≡◌, ◌≤◌, length, Some, OnOk};
-ghost use Rattle.std.specs.Io.KnownBytes.{IsAtEnd};
 ghost use Rattle.octseq.specs.Parsing.{message, position, MovesTo};
 ghost use Rattle.domain_header.specs.Values.{rcode_number};
 ghost use Rattle.domain_message.specs.Sections.{counted_records};
-ghost use Rattle.domain_tool.specs.Engines.{IfRefused, OnAnswer};
+ghost use Rattle.domain_tool.specs.Engines.{IfRefused};
 ghost use Rattle.domain_lines.specs.Failures.{IfWritingFailed};
 ghost use Rattle.domain_lines.specs.Messages.{flags_text, codes_line, counts_line, header_text, header_rcode, section_heading, PutsMessage};
-ghost use Rattle.domain_lines.specs.Streams.{IfEitherFailed};
 ghost use Rattle.domain_lines.specs.Writing.{PutsQuestions, FewerAsked, PutsRecords, FewerRecords, PutsSection, StopsIn};
-ghost use Rattle.domain_lines.specs.Writing.{PutsAsked, PutsAnswers, PutsAuthority, PutsPart, PutsPartOf, ShowsGiven, ShowsPart};
+ghost use Rattle.domain_lines.specs.Writing.{PutsAsked, PutsAnswers, PutsAuthority, PutsPart, PutsPartOf};
 
 use crate::flags::word_if;
 use crate::record::write_entry;
-use crate::streams::{Sink, Source};
+use crate::streams::Sink;
 use domain_header::{Header, HeaderCounts, Rcode};
 use domain_message::{ParsedRecord, Question, Section};
 use domain_tool::tool::ToolError;
 use domain_wire::ParseError;
 use domain_wire::parse::Parse;
 use octseq::Parser;
-use std::alloc::Global;
 use std::fmt;
 
 /// The flags that are set, a space before each, and the bit Z, which must be zero.
@@ -270,7 +267,12 @@ fn write_to_authority<W: Sink>(parser: &mut Parser<'_>, output: &mut W) -> Resul
     write_section(Section::Authority, parser, output)
 }
 
-/// Writes the header, the questions, and the records of each section.
+/// Writes the message in presentation format: two lines of the header, and for each section its heading and a line for
+/// each question or record.
+///
+/// Data of a record that can't be read is shown in the form of RFC 3597, 5, with the reason after it. An OPT record of
+/// the root in the additional section has a line of its version, flags and size, and one for each option (RFC 6891,
+/// 6.1).
 ///
 /// `Parse` says why the message can't be shown to its end: it has fewer than twelve octets, or a question or record
 /// that the header counts is missing. All lines before that are written. The other errors are of writing.
@@ -287,31 +289,4 @@ pub fn write_message<W: Sink>(message: &[u8], output: &mut W) -> Result<(), Tool
         return Err(e);
     }
     write_section(Section::Additional, &mut parser, output)
-}
-
-/// Reads the input to its end, and writes the message in presentation format: two lines of the header, and for each
-/// section its heading and a line for each question or record.
-///
-/// Data of a record that can't be read is shown in the form of RFC 3597, 5, with the reason after it. An OPT record of
-/// the root in the additional section has a line of its version, flags and size, and one for each option (RFC 6891,
-/// 6.1).
-///
-/// `Parse` says why the message can't be shown to its end: it has fewer than twelve octets, or a question or record
-/// that the header counts is missing. All lines before that are written. `Read`, `Write` or `Memory` where one of
-/// these failed.
-pub fn show_message<R: Source, W: Sink>(
-    alloc: Global,
-    input: &mut R,
-    output: &mut W,
-) -> Result<(), ToolError>
-    ensures whole { OnAnswer result (IsAtEnd (R.remaining input.new)) }
-    ensures written { OnOk result (ShowsGiven R.Source input.old W.Sink output.old output.new) }
-    ensures refused { IfRefused result (ShowsPart R.Source input.old W.Sink output.old output.new) }
-    ensures failed { IfEitherFailed result R.failed input.new W.failed output.old output.new }
-{
-    let octets = match input.read_whole(alloc) {
-        Ok(octets) => octets,
-        Err(e) => return Err(e),
-    };
-    write_message(octets.as_slice(), output)
 }
