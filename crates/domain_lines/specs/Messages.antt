@@ -6,13 +6,15 @@ use Rattle.domain_wire.specs.declared.error.ParseError.{ParseError}
 use Rattle.domain_wire.specs.declared.error.ParseError.TheVariants.{ShortInput}
 use Rattle.domain_header.specs.Bits.{bits, bit}
 use Rattle.domain_header.specs.Numbers.{number16}
-use Rattle.domain_header.specs.Tables.{opcode_text, rcode_text}
+use Rattle.domain_header.specs.Tables.{opcode_text, rcode_text, class_text}
+use Rattle.domain_header.specs.Rtypes.{rtype_text}
 use Rattle.domain_message.specs.Entries.{QuestionFields, QuestionAt, NoQuestion, RecordAt, NoRecord}
 use Rattle.domain_message.specs.Sections.{Run, counted_records}
-use Rattle.domain_message.specs.Texts.{question_text}
+use Rattle.domain_message.specs.Texts.{spaced}
 use Rattle.domain_message.specs.declared.section.Section.{Section}
 use Rattle.domain_message.specs.declared.section.Section.TheVariants.{Answer, Authority, Additional}
 use Rattle.domain_lines.specs.Flags.{flag_text}
+use Rattle.domain_lines.specs.Names.{zone_name}
 use Rattle.domain_lines.specs.Records.{IsEntryText}
 
 -- The flags that are set in the third and fourth octet of a header (RFC 1035, 4.1.1; AD and CD RFC 4035, 3.1.6 and
@@ -54,9 +56,13 @@ section_heading Additional = codes ";; ADDITIONAL SECTION"
 abbrev pub header_rcode : List ℕ → ℕ
 header_rcode m = bits 1 16 (slice_index m 3)
 
--- The line of a question, whichever are before it: name, class and type.
+-- the line of a question: name, class and type
+abbrev pub zone_question : QuestionFields → List ℕ
+zone_question it = spaced (zone_name it.name) (spaced (class_text it.class) (rtype_text it.rtype))
+
+-- The line of a question, whichever are before it.
 abbrev pub IsQuestionText : List QuestionFields → QuestionFields → List ℕ → Type 0
-IsQuestionText before it text = text ≡ question_text it.name it.class it.rtype ++ 10 ∷ []
+IsQuestionText before it text = text ≡ zone_question it ++ 10 ∷ []
 
 -- After the entries before, the text has the lines of each entry, in their order.
 abbrev pub AreTextsOf : {V : Type 0} → (List V → V → List ℕ → Type 0) → List V → List V → List ℕ → Type 0

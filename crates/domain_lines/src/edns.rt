@@ -110,8 +110,8 @@ impl fmt::Display for EdnsLine {
 
 /// Each octet as a space and two hexadecimal digits.
 #[derive(Clone, Copy)]
-struct HexPairs<'a> {
-    octets: &'a [u8],
+pub(crate) struct HexPairs<'a> {
+    pub(crate) octets: &'a [u8],
 }
 
 impl<'a> fmt::Display for HexPairs<'a> {

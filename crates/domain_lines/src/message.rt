@@ -5,15 +5,17 @@ ghost use Rattle.domain_header.specs.Values.{rcode_number};
 ghost use Rattle.domain_message.specs.Sections.{counted_records};
 ghost use Rattle.domain_tool.specs.Engines.{IfRefused};
 ghost use Rattle.domain_lines.specs.Failures.{IfWritingFailed};
-ghost use Rattle.domain_lines.specs.Messages.{flags_text, codes_line, counts_line, header_text, header_rcode, section_heading, PutsMessage};
+ghost use Rattle.domain_lines.specs.Messages.{flags_text, codes_line, counts_line, header_text, header_rcode, section_heading, zone_question, PutsMessage};
 ghost use Rattle.domain_lines.specs.Writing.{PutsQuestions, FewerAsked, PutsRecords, FewerRecords, PutsSection, StopsIn};
 ghost use Rattle.domain_lines.specs.Writing.{PutsAsked, PutsAnswers, PutsAuthority, PutsPart, PutsPartOf};
 
 use crate::flags::word_if;
+use crate::name::ZoneName;
 use crate::record::write_entry;
 use crate::streams::Sink;
 use domain_header::{Header, HeaderCounts, Rcode};
-use domain_message::{ParsedRecord, Question, Section};
+use domain_message::{ParsedRecord, Question, RtypeText, Section};
+use domain_parsed::ParsedName;
 use domain_tool::tool::ToolError;
 use domain_wire::ParseError;
 use domain_wire::parse::Parse;
@@ -130,6 +132,27 @@ fn write_header<W: Sink>(message: &[u8], output: &mut W) -> Result<(), ToolError
     Ok(())
 }
 
+/// A question: name, class and type.
+#[derive(Clone, Copy)]
+struct QuestionLine<'a> {
+    question: Question<ParsedName<&'a [u8]>>,
+}
+
+impl<'a> fmt::Display for QuestionLine<'a> {
+    ghost use Rattle.domain_message.specs.Models.{question_fields};
+
+    ghost output = { λ it. Some (zone_question (question_fields it.question)) };
+
+    fn fmt<W: fmt::Write>(&self, f: &mut fmt::Formatter<W>) -> fmt::Result {
+        let name = ZoneName {
+            name: self.question.qname(),
+        };
+        let class = self.question.qclass();
+        let rtype = RtypeText::new(self.question.qtype());
+        write!(f, "{name} {class} {rtype}")
+    }
+}
+
 /// Writes the lines of this many questions, and moves the parser past them.
 fn write_questions<W: Sink>(
     count: u16,
@@ -147,7 +170,7 @@ fn write_questions<W: Sink>(
             Ok(question) => question,
             Err(e) => return Err(ToolError::Parse(e)),
         };
-        output.put_line(question)?;
+        output.put_line(QuestionLine { question })?;
     }
     Ok(())
 }
