@@ -1,5 +1,5 @@
 -- What the program writes of a message.
-use Rattle.std.specs.Prelude.{◌≡◌, ℕ, ◌<◌, ◌≤◌, Bool, true, false, List, [], ◌∷◌, ◌++◌, length, slice_index, codes, Option}
+use Rattle.std.specs.Prelude.{◌≡◌, ℕ, ◌<◌, ◌≤◌, Bool, true, false, List, [], ◌∷◌, ◌++◌, length, drop, slice_index, cond, nat_eq, codes, Option}
 use Rattle.std.specs.Fmt.{decimal}
 use Rattle.std.specs.Io.KnownBytes.{Appends}
 use Rattle.domain_wire.specs.declared.error.ParseError.{ParseError}
@@ -117,9 +117,21 @@ ShowsAnswers m e text = (p : ℕ) × (before : List ℕ) × (here : List ℕ) ×
 abbrev pub ShowsAuthority : List ℕ → ℕ → List ℕ → Type 0
 ShowsAuthority m e text = (p : ℕ) × (before : List ℕ) × (here : List ℕ) × ShowsAnswers m p before × ShowsSection m Authority p e here × (text ≡ before ++ here)
 
--- The text shows the message: the header, the questions, and the records of each section.
+-- how many octets follow the last record
+abbrev pub trailing_line : ℕ → List ℕ
+trailing_line n = codes "; trailing octets: " ++ decimal n
+
+-- the same with its newline, where octets follow
+abbrev pub trailing_text : ℕ → List ℕ
+trailing_text n = cond (nat_eq n 0) [] (trailing_line n ++ 10 ∷ [])
+
+-- The additional section at p is shown, and how many octets follow it.
+abbrev pub ShowsRest : List ℕ → ℕ → List ℕ → Type 0
+ShowsRest m p text = (e : ℕ) × (here : List ℕ) × ShowsSection m Additional p e here × (text ≡ here ++ trailing_text (length (drop e m)))
+
+-- The text shows the message: the header, the questions, the records of each section, and how many octets follow.
 abbrev pub ShowsMessage : List ℕ → List ℕ → Type 0
-ShowsMessage m text = (e : ℕ) × (p : ℕ) × (before : List ℕ) × (here : List ℕ) × ShowsAuthority m p before × ShowsSection m Additional p e here × (text ≡ before ++ here)
+ShowsMessage m text = (p : ℕ) × (before : List ℕ) × (rest : List ℕ) × ShowsAuthority m p before × ShowsRest m p rest × (text ≡ before ++ rest)
 
 -- The message can't be shown to its end, and why, and the text shows all before that.
 pub data StopsShowing (m text : List ℕ) (why : ParseError) : Type 0 where

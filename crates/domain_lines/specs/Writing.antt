@@ -13,7 +13,7 @@ use Rattle.domain_message.specs.declared.record.ParsedRecord.{ParsedRecord}
 use Rattle.domain_message.specs.declared.section.Section.{Section}
 use Rattle.domain_lines.specs.Edns.{AreOptionLines}
 use Rattle.domain_lines.specs.declared.streams.Sink.{Ghosts as SinkMembers}
-use Rattle.domain_lines.specs.Messages.{IsQuestionText, WritesAll, WritesSome, ShowsQuestions, ShowsAnswers, ShowsAuthority, ShowsSection, StopsInSection, PutsUntil}
+use Rattle.domain_lines.specs.Messages.{IsQuestionText, WritesAll, WritesSome, ShowsQuestions, ShowsAnswers, ShowsAuthority, ShowsSection, StopsInSection, ShowsRest, PutsUntil}
 use Rattle.domain_lines.specs.Records.{IsRecordLine, is_opt_in, IsOptText, IsEntryText}
 
 -- What shows this was put.
@@ -88,6 +88,10 @@ PutsAnswers old new g before after = Wrote (ShowsAnswers (message old) (position
 abbrev pub PutsAuthority : {W : Type 0} → Parser → Parser → SinkMembers W → W → W → Type 0
 PutsAuthority old new g before after =
     Wrote (ShowsAuthority (message old) (position new)) (g.takes before after)
+
+-- The additional section was put, from where the parser was, and how many octets follow it.
+abbrev pub PutsRest : {W : Type 0} → Parser → SinkMembers W → W → W → Type 0
+PutsRest old g before after = Wrote (ShowsRest (message old) (position old)) (g.takes before after)
 
 -- The message can't be shown to its end, and why, and the text that shows all before that was put.
 abbrev pub PutsPart : List ℕ → (List ℕ → Type 0) → ParseError → Type 0
