@@ -8,7 +8,6 @@ use Rattle.domain_wire.specs.declared.error.ParseError.{ParseError}
 use Rattle.domain_wire.specs.declared.error.ParseError.TheVariants.{ShortInput}
 use Rattle.domain_message.specs.Options.{BeginsWithOption, EndsInOption}
 use Rattle.domain_message.specs.OptRecords.{compact_ok_bit, upper_code, edns_version, dnssec_ok_bit}
-use Rattle.domain_header.specs.Bits.{bit}
 use Rattle.domain_rdata.specs.AnyData.{spaced_octet, unknown_text}
 use Rattle.domain_lines.specs.Flags.{flag_text}
 

@@ -1,4 +1,4 @@
-use Rattle.std.proofs.Common.{◌≡◌, ℕ, List, [], ◌∷◌, ◌++◌, refl, sym, ap, ◌∙◌, append_assoc, append-nil, cond, true, false}
+use Rattle.std.proofs.Common.{◌≡◌, ℕ, List, [], ◌∷◌, ◌++◌, sym, ap, ◌∙◌, append_assoc, append-nil, cond, true, false}
 use Rattle.domain_label.specs.Text.{escaped, escaped_octet}
 use Rattle.domain_lines.specs.Names.{has_zone_meaning, zone_octet}
 use Rattle.domain_lines.proofs.name.push_octet.Goals as goal
