@@ -1,3 +1,7 @@
+pub mod Stepping
+pub mod Telling
+pub mod Scanning
+pub mod Naming
 pub mod Texts
 pub mod Once
 pub mod Entering
