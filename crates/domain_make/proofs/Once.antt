@@ -14,7 +14,7 @@ use Rattle.domain_message_builder.specs.Contents.{RecordHead}
 use Rattle.domain_header.specs.Rtypes.{rtype_rows}
 use Rattle.domain_header.specs.Tables.{class_rows}
 use Rattle.domain_make.specs.Data.{IsData}
-use Rattle.domain_make.specs.Parts.{IsNumber32, IsNameWord}
+use Rattle.domain_make.specs.Parts.{IsNameWord}
 use Rattle.domain_make.specs.Words.{WordAt}
 use Rattle.domain_make.specs.declared.error.Fault.{Fault}
 use Rattle.domain_make.specs.Entries.{IsClassWord, IsTypeWord, AreStated, IsQuestionWords, IsRecordWords}
@@ -85,10 +85,10 @@ no_name w f c ls (no_text ends lack) is = lack.1 ls is
 
 says_or_fault : (rtype class : ℕ) (text octets : List ℕ) (why : TextFault) → text_octets (known_fields rtype class) text ≡ Ok octets → (IsGenericText text → IsPlain (known_fields rtype class) octets)
     → IsReadFault (known_fields rtype class) text why → ⊥
-says_or_fault rtype class text octets why says plain (inl refused) = not_both octets why (sym says ∙ refused)
-says_or_fault rtype class text octets why says plain (inr (generic, (others, said, at, not))) =
+says_or_fault rtype class text octets why told plain (inl refused) = not_both octets why (sym told ∙ refused)
+says_or_fault rtype class text octets why told plain (inr (generic, (others, said, at, not))) =
     let ks = known_fields rtype class in
-    plain_or_not ks octets (plain generic) (subst (λ (x : List ℕ). IsNotPlain ks x) (same_ok others octets (sym said ∙ says)) not)
+    plain_or_not ks octets (plain generic) (subst (λ (x : List ℕ). IsNotPlain ks x) (same_ok others octets (sym said ∙ told)) not)
 
 no_data : (rtype class : ℕ) (line : List ℕ) (words : List WordAt) (f : Fault) (c : ℕ) (octets : List ℕ) → NoData rtype class line words f c → IsData rtype class line words octets → ⊥
 no_data rtype class line words f c octets lack (no_data_meant meant empty) = lack.meant meant

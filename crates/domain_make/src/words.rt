@@ -1,7 +1,8 @@
 //! The words of a line (RFC 1035, 5.1).
-ghost use Rattle.std.specs.Prelude.{◌≡◌, ◌≤◌, ◌↔◌, drop, length, map, Ok, IsTrue, IfOk, IfErr};
+ghost use Rattle.std.specs.Prelude.{◌≡◌, ◌≤◌, ◌↔◌, ◌++◌, ◌∷◌, [], drop, length, map, Ok, IsTrue, IfOk, IfErr, OnOk};
 ghost use Rattle.domain_make.specs.Stops.{IfFault, NoWords};
-ghost use Rattle.domain_make.specs.Words.{IsBlank, AreWords, column_of, placed, words_at};
+ghost use Rattle.domain_make.specs.Words.{IsBlank, AreWords, column_of, placed, word_at, words_at};
+ghost use Rattle.domain_make.specs.declared.error.Stop.{Stop};
 ghost use Rattle.domain_rdata_text.specs.Words.{split, words_of};
 
 use crate::error::{Fault, Stop};
@@ -68,6 +69,18 @@ pub(crate) fn found_words(alloc: Global, line: &[u8], start: usize) -> Result<Ve
     }
 }
 
+/// Appends a word.
+fn push_word<'a>(word: Word<'a>, words: &mut Vec<Word<'a>>) -> Result<(), Stop>
+    ensures ok { OnOk result
+        (words_at words.new.items ≡ words_at words.old.items ++ word_at word ∷ []) }
+    ensures err { IfErr result (λ e. e ≡ Stop.Memory) }
+{
+    match words.push(word) {
+        Ok(()) => Ok(()),
+        Err(_) => Err(Stop::Memory),
+    }
+}
+
 /// Words of the text that begins at `start` in a line, each with its column.
 fn placed<'a>(
     alloc: Global,
@@ -85,9 +98,7 @@ fn placed<'a>(
     'word: while let [word, following @ ..] = rest {
         let column = column_of(line, start, word.begin);
         let octets = word.octets.as_slice();
-        if made.push(Word { octets, column }).is_err() {
-            return Err(Stop::Memory);
-        }
+        push_word(Word { octets, column }, &mut made)?;
         rest = following;
     }
     Ok(made)
