@@ -4,6 +4,7 @@ pub mod Scanning
 pub mod Naming
 pub mod Texts
 pub mod Once
+pub mod Saying
 pub mod Entering
 pub mod Marking
 pub mod Refusing

@@ -72,7 +72,7 @@ pub(crate) fn found_words(alloc: Global, line: &[u8], start: usize) -> Result<Ve
 /// Appends a word.
 fn push_word<'a>(word: Word<'a>, words: &mut Vec<Word<'a>>) -> Result<(), Stop>
     ensures ok { OnOk result
-        (words_at words.new.items ≡ words_at words.old.items ++ word_at word ∷ []) }
+        (words_at words.new.items ≡ words_at words.old.items ++ word_at word.entry ∷ []) }
     ensures err { IfErr result (λ e. e ≡ Stop.Memory) }
 {
     match words.push(word) {
