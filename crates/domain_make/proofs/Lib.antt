@@ -9,3 +9,4 @@ pub mod Entering
 pub mod Marking
 pub mod Refusing
 pub mod Drafting
+pub mod Failing

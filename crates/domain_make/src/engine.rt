@@ -3,7 +3,7 @@ ghost use Rattle.std.specs.Prelude.{◌≡◌, ◌≤◌, ◌↔◌, Bool, true,
 ghost use Rattle.std.specs.Io.KnownBytes.{IsAtEnd};
 ghost use Rattle.domain_tool.specs.WireText.{octet_digits, hexadecimal};
 ghost use Rattle.domain_tool.specs.WordParts.{texts};
-ghost use Rattle.domain_make.specs.Made.{IsMade, WritesOctets, MakesOf, AsksToMake, MakesAsked, IfLine};
+ghost use Rattle.domain_make.specs.Made.{IsMade, WritesOctets, MakesOf, AsksToMake, MakesAsked, IfLine, IsOfText};
 ghost use Rattle.domain_make.specs.Reasons.{usage_text};
 ghost use Rattle.domain_make.specs.Refusals.{StopsAtLine, NotMade, StopsSomewhere, StopsAtGiven, GivenNotMade};
 ghost use Rattle.domain_make.specs.Telling.{HasFailed, TellsReason, TellsText, TellsLine, TellsFailure};
@@ -31,6 +31,7 @@ pub fn make_message<Target: Composer + Drop>(
     ensures message { IfOk result (λ made. IsMade text.now (Target.octets made)) }
     ensures refused { IfErr result (λ e. IfLine e (StopsAtLine Target.compresses text.now)) }
     ensures accepted { IfErr result (λ e. IfLine e (λ _. NotMade Target.compresses text.now)) }
+    ensures of_text { IfErr result (λ e. IsOfText e) }
 {
     let mut message = match MessageBuilder::from_target(target) {
         Ok(message) => message,
@@ -47,6 +48,7 @@ fn shorter_message(alloc: Global, text: &[u8]) -> Result<Vec<u8>, MakeError>
     ensures message { IfOk result (λ made. IsMade text.now made.items) }
     ensures refused { IfErr result (λ e. IfLine e (StopsAtLine true text.now)) }
     ensures accepted { IfErr result (λ e. IfLine e (λ _. NotMade true text.now)) }
+    ensures of_text { IfErr result (λ e. IsOfText e) }
 {
     let composer = CompressComposer::new(Vec::new(alloc));
     match make_message(alloc, text, composer) {

@@ -1,7 +1,7 @@
 //! One line after the other.
 ghost use Rattle.std.specs.Prelude.{◌≡◌, ◌≢◌, ◌<◌, ◌≤◌, ◌↔◌, length, slice_index, IsTrue, OnOk, IfOk, IfErr};
 ghost use Rattle.domain_make.specs.Drafts.{IsAsked, IsRemark, IsLine};
-ghost use Rattle.domain_make.specs.Made.{IfLine};
+ghost use Rattle.domain_make.specs.Made.{IfLine, IsOfText};
 ghost use Rattle.domain_make.specs.Refusals.{IsOutside};
 ghost use Rattle.domain_make.specs.Taking.{TakesLine, TakesEntryLine, LineNotTaken, TakesLines, LinesNotTaken};
 ghost use Rattle.domain_make.specs.Words.{AreWords, words_at};
@@ -190,7 +190,8 @@ fn line_end(text: &[u8], start: usize) -> usize
 
 /// Why a line wasn't taken, with its number.
 fn refused_line(stop: Stop, line: usize) -> MakeError
-    ensures { IfLine result (λ e. (e.line ≡ line) × (stop ≡ Stop.Refused e.fault e.column)) }
+    ensures line { IfLine result (λ e. (e.line ≡ line) × (stop ≡ Stop.Refused e.fault e.column)) }
+    ensures of_text { IsOfText result }
 {
     match stop {
         Stop::Refused(fault, column) => MakeError::Line(LineError {
@@ -210,6 +211,7 @@ pub(crate) fn take_lines<Target: Composer>(
 ) -> Result<(), MakeError>
     ensures all { OnOk result (TakesLines text.now message.old message.new) }
     ensures refused { IfErr result (LinesNotTaken text.now message.old) }
+    ensures of_text { IfErr result (λ e. IsOfText e) }
 {
     let mut stage = Stage::Start;
     let mut at = 0;
