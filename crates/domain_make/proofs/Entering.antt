@@ -1,6 +1,5 @@
 -- Questions and records of words, and what is reported where they are none or aren't pushed.
 use Rattle.std.proofs.Common.{◌≡◌, ℕ, zero, suc, ◌-◌, ◌<◌, ◌≤◌, Bool, true, false, List, [], ◌∷◌, length, get_or, take, drop, refl, sym, ap, subst, ◌∙◌, arith, inl, inr}
-use Rattle.std.specs.Prelude.{◌⊎◌}
 use Rattle.std.proofs.lemmas.List.{length-map}
 use Rattle.domain_message.specs.Entries.{QuestionFields}
 use Rattle.domain_message.specs.declared.section.Section.{Section}
@@ -12,7 +11,7 @@ use Rattle.domain_message_builder.specs.declared.error.PushError.TheVariants.{Ap
 use Rattle.domain_make.specs.Data.{IsData}
 use Rattle.domain_make.specs.Entries.{IsClassWord, IsTypeWord, begins_with_digit, AreStated, first_column, IsQuestionWords, IsRecordWords}
 use Rattle.domain_make.specs.Stops.{IfFault, NoName, NoNumber32, NoData}
-use Rattle.domain_make.specs.Faults.{NoClass, NoType, NoQuestionWords, NoStated, NoRecordWords, NoFittingRecord, BeginsRecord, LongRecord}
+use Rattle.domain_make.specs.Faults.{NoClass, NoType, NoQuestionWords, NoStated, NoFittingRecord, BeginsRecord}
 use Rattle.domain_make.specs.Faults.NoStated.{no_ttl, ttl_alone, no_class, class_alone}
 use Rattle.domain_make.specs.Faults.NoQuestionWords.{name as question_lacks_name, class as question_lacks_class, rtype as question_lacks_type}
 use Rattle.domain_make.specs.Faults.NoRecordWords.{owner as record_lacks_owner, stated as record_lacks_stated, rtype as record_lacks_type, rdata as record_lacks_data}

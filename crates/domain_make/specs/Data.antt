@@ -17,8 +17,8 @@ text_from line words = drop (begin_of (length line) words) line
 abbrev pub MeansNone : ℕ → List WordAt → Type 0
 MeansNone class words = (words ≡ []) × ((class ≡ 254) ⊎ (class ≡ 255))
 
--- The line from these words on is the data of a record of this type and class: its fields one by one, or after `\#` any
--- octets that are data of the type (RFC 3597, 5). Or no data is meant.
+-- The line from these words on is the data of a record of this type and class: its fields one by one, or after `\#`
+-- any octets that are data of the type (RFC 3597, 5). Or no data is meant.
 pub data IsData (rtype class : ℕ) (line : List ℕ) (words : List WordAt) (octets : List ℕ) : Type 0 where
   nothing : MeansNone class words → octets ≡ [] → IsData rtype class line words octets
   says : (MeansNone class words → ⊥) → text_octets (known_fields rtype class) (text_from line words) ≡ Ok octets

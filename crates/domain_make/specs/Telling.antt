@@ -27,8 +27,8 @@ TellsText g shown old new = IfSome shown (λ text. TellsReason g text old new)
 abbrev pub TellsLine : {E : Type 0} → Option (List ℕ) → SinkMembers E → E → E → Type 0
 TellsLine given g old new = (e : LineError) × StopsAtGiven true given e × TellsReason g (line_error_text e) old new
 
--- What the error names has failed: reading, and nothing was written; or writing; or memory, after reading failed or all
--- was read, and nothing was written.
+-- What the error names has failed: reading, and nothing was written; or writing; or memory, after reading failed or
+-- all was read, and nothing was written.
 abbrev pub HasFailed : {R W : Type 0} → (R → Option (List ℕ)) → (R → Type 0) → R → (W → Type 0) → W → W → MakeError → Type 0
 HasFailed remaining ReadingFailed input WritingFailed old new (Line e) = ⊤
 HasFailed remaining ReadingFailed input WritingFailed old new Read = ReadingFailed input × (new ≡ old)
