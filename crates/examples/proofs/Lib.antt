@@ -3,3 +3,4 @@ pub mod Replies
 pub mod Passing
 pub mod Finding
 pub mod Responding
+pub mod SignedSets

@@ -9,6 +9,7 @@ pub mod MessageHosts
 pub mod Responses
 pub mod Served
 pub mod Services
+pub mod Signed
 pub mod Exchangers
 pub mod MessageOctets
 pub mod Targets
