@@ -4,3 +4,4 @@ pub mod Passing
 pub mod Finding
 pub mod Responding
 pub mod SignedSets
+pub mod Wholeness

@@ -6,6 +6,7 @@ pub mod Appending
 pub mod EdnsSizes
 pub mod Built
 pub mod MessageHosts
+pub mod Referrals
 pub mod Responses
 pub mod Served
 pub mod Services
