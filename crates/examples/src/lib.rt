@@ -37,6 +37,7 @@ pub mod referring;
 pub mod sections;
 pub mod services;
 pub mod serving;
+pub mod signing;
 pub mod typed_names;
 pub mod values;
 pub mod wrapped;

@@ -54,7 +54,7 @@ fn an_rrset_is_whole_or_absent(rt: HostRuntime) {
 /// Of an RRset that has no room nothing stays, no name is remembered of it, and the error is that of its first record
 /// that was refused.
 #[test]
-fn nothing_stays_of_a_refused_rrset(rt: HostRuntime) {
+fn nothing_stays_of_an_rrset_without_room(rt: HostRuntime) {
     let (class, ttl) = (Class::from_int(1), Ttl::from_secs(300));
     let owner = absolute(&rt, WWW);
     let target = CompressComposer::new(Vec::new(rt.alloc()));
