@@ -1,0 +1,130 @@
+//! The response to a query.
+
+use crate::edns::{Server, limit_of, opt_for};
+use crate::error::ResponseError;
+use crate::header::{Verdict, response_header};
+use crate::query::question_of;
+use crate::sections::push_sections;
+use domain_header::{Header, Rcode};
+use domain_message::{Message, Question, opt_of};
+use domain_message_builder::{MessageBuilder, OptBuilder};
+use domain_name::Name;
+use domain_parsed::ParsedName;
+use domain_rdata::Composer;
+use domain_traits::ToName;
+use domain_zone::Zone;
+use domain_zone_answer::respond;
+use std::alloc::Global;
+
+/// Pushes the OPT record, if there is one, and finishes the message.
+fn finish<Target: Composer + Drop>(
+    message: MessageBuilder<Target>,
+    opt: Option<OptBuilder<&'static [u8]>>,
+) -> Result<Target, ResponseError> {
+    let mut message = message;
+    if let Some(opt) = &opt {
+        if let Err(_refused) = message.push_opt(opt) {
+            return Err(ResponseError::NoRoom);
+        }
+    }
+    Ok(message.finish())
+}
+
+/// Begins a message of at most `limit` octets, of which the OPT record's are set aside.
+fn begin<Target: Composer + Drop>(
+    target: Target,
+    limit: u16,
+    opt: &Option<OptBuilder<&'static [u8]>>,
+) -> Result<MessageBuilder<Target>, ResponseError> {
+    let Ok(mut message) = MessageBuilder::with_limit(target, limit) else {
+        return Err(ResponseError::NoRoom);
+    };
+    let aside = if let Some(_) = opt { 11 } else { 0 };
+    if let Err(_refused) = message.reserve(aside) {
+        return Err(ResponseError::NoRoom);
+    }
+    Ok(message)
+}
+
+/// The response to a query that is refused with a response code: a header, the first question if it can be read, and
+/// an OPT record.
+fn refuse<Target: Composer + Drop>(
+    query: &Message<&[u8]>,
+    code: u8,
+    message: MessageBuilder<Target>,
+    opt: Option<OptBuilder<&'static [u8]>>,
+) -> Result<Target, ResponseError> {
+    let mut message = message;
+    let verdict = Verdict {
+        aa: false,
+        tc: false,
+        rcode: Rcode::masked_from_int(code % 16),
+    };
+    message.set_header(response_header(query.header(), verdict));
+    if let Some(question) = query.first_question() {
+        if let Err(_refused) = message.push_question(&question) {
+            return Err(ResponseError::NoRoom);
+        }
+    }
+    finish(message, opt)
+}
+
+/// Pushes the question and what the zone answers to it, and sets the header.
+fn answer_from<Target: Composer + Drop>(
+    alloc: Global,
+    zone: &Zone,
+    query: Header,
+    question: &Question<ParsedName<&[u8]>>,
+    message: &mut MessageBuilder<Target>,
+) -> Result<(), ResponseError> {
+    let Ok(qname) = question.qname().to_vec(alloc) else {
+        return Err(ResponseError::Memory);
+    };
+    if let Err(_refused) = message.push_question(question) {
+        return Err(ResponseError::NoRoom);
+    }
+    let name = qname.for_slice();
+    let response = respond(zone, &name, question.qtype().to_int());
+    let Ok(whole) = push_sections(alloc, message, zone.class(), &response) else {
+        return Err(ResponseError::Memory);
+    };
+    let verdict = Verdict {
+        aa: response.is_authoritative(),
+        tc: !whole,
+        rcode: response.rcode(),
+    };
+    message.set_header(response_header(query, verdict));
+    Ok(())
+}
+
+/// Appends to an empty target the message that answers a query from a zone. `None` exactly where none is sent: fewer
+/// than twelve octets are no query, and neither is a response.
+pub fn respond_to<Target: Composer + Drop>(
+    alloc: Global,
+    zone: &Zone,
+    query: &[u8],
+    server: Server,
+    target: Target,
+) -> Result<Option<Target>, ResponseError> {
+    let Ok(query) = Message::from_octets(query) else {
+        return Ok(None);
+    };
+    if query.header().qr() {
+        return Ok(None);
+    }
+    let asked = opt_of(&query);
+    let question = question_of(&query, &asked, zone.class());
+    let upper = match &question {
+        Ok(_) => 0,
+        Err(code) => *code / 16,
+    };
+    let opt = opt_for(server, &asked, upper);
+    let mut message = begin(target, limit_of(server, &asked), &opt)?;
+    match &question {
+        Ok(question) => {
+            answer_from(alloc, zone, query.header(), question, &mut message)?;
+            Ok(Some(finish(message, opt)?))
+        }
+        Err(code) => Ok(Some(refuse(&query, *code, message, opt)?)),
+    }
+}

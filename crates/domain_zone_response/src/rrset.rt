@@ -1,0 +1,80 @@
+//! RRsets in a message.
+
+use domain_header::{Class, Ttl};
+use domain_message::{Record, Section};
+use domain_message_builder::MessageBuilder;
+use domain_name::Name;
+use domain_rdata::{Composer, Rtype, UnknownRecordData};
+use domain_zone_answer::SectionRrset;
+
+/// What the records of an RRset have before their data.
+#[derive(Clone, Copy)]
+pub(crate) struct Head<'a> {
+    /// Their owner.
+    pub(crate) owner: Name<&'a [u8]>,
+    /// Their type.
+    pub(crate) rtype: u16,
+    /// Their class.
+    pub(crate) class: Class,
+    /// Their TTL in seconds.
+    pub(crate) ttl: u32,
+}
+
+/// Pushes a record with these octets as data. Returns whether it was pushed.
+pub(crate) fn push_record<Target: Composer>(
+    message: &mut MessageBuilder<Target>,
+    section: Section,
+    head: Head<'_>,
+    octets: &[u8],
+) -> bool {
+    let Ok(rdata) = UnknownRecordData::from_octets(Rtype::from_int(head.rtype), octets) else {
+        return false;
+    };
+    let record = Record::new(head.owner, head.class, Ttl::from_secs(head.ttl), rdata);
+    match message.push(section, &record) {
+        Ok(()) => true,
+        Err(_refused) => false,
+    }
+}
+
+/// Pushes the records of an RRset, up to the first that is refused. Returns whether all were pushed.
+pub(crate) fn push_rrset<Target: Composer>(
+    message: &mut MessageBuilder<Target>,
+    section: Section,
+    class: Class,
+    set: SectionRrset<'_>,
+) -> bool {
+    let head = Head {
+        owner: set.owner(),
+        rtype: set.rtype(),
+        class,
+        ttl: set.ttl(),
+    };
+    let rdata = set.rdata();
+    for octets in rdata {
+        let pushed = push_record(message, section, head, octets.as_slice());
+        if !pushed {
+            return false;
+        }
+    }
+    true
+}
+
+/// Pushes an RRset, if there is one, as the first of its section, whole or not at all. Returns whether none was left
+/// out.
+pub(crate) fn push_first<Target: Composer>(
+    message: &mut MessageBuilder<Target>,
+    section: Section,
+    class: Class,
+    set: Option<SectionRrset<'_>>,
+) -> bool {
+    let Some(set) = set else {
+        return true;
+    };
+    let pushed = push_rrset(message, section, class, set);
+    if pushed {
+        return true;
+    }
+    message.rewind(section);
+    false
+}

@@ -1,0 +1,66 @@
+//! The sections of a response.
+
+use crate::glue::{glue_of, push_glue};
+use crate::rrset::{Head, push_first, push_record};
+use domain_header::Class;
+use domain_message::Section;
+use domain_message_builder::MessageBuilder;
+use domain_rdata::Composer;
+use domain_traits::ToName;
+use domain_zone_answer::{Response, SynthesizedCname};
+use std::alloc::{AllocError, Global};
+
+/// Pushes the CNAME that a DNAME makes. Returns whether it was pushed.
+fn push_cname<Target: Composer>(
+    alloc: Global,
+    message: &mut MessageBuilder<Target>,
+    class: Class,
+    cname: SynthesizedCname<'_>,
+) -> Result<bool, AllocError> {
+    let target = cname.target();
+    let Ok(name) = target.to_vec(alloc) else {
+        return Err(AllocError);
+    };
+    let head = Head {
+        owner: cname.owner(),
+        rtype: 5,
+        class,
+        ttl: cname.ttl(),
+    };
+    Ok(push_record(message, Section::Answer, head, name.as_slice()))
+}
+
+/// Pushes the records of the answer section. Returns whether none was left out.
+fn push_answers<Target: Composer>(
+    alloc: Global,
+    message: &mut MessageBuilder<Target>,
+    class: Class,
+    response: &Response<'_>,
+) -> Result<bool, AllocError> {
+    let first = response.answer();
+    if !push_first(message, Section::Answer, class, first) {
+        return Ok(false);
+    }
+    match response.synthesized_cname() {
+        Some(cname) => push_cname(alloc, message, class, cname),
+        None => Ok(true),
+    }
+}
+
+/// Pushes the sections of a response, up to the first required RRset that doesn't fit. Returns whether none of these
+/// was left out.
+pub(crate) fn push_sections<Target: Composer>(
+    alloc: Global,
+    message: &mut MessageBuilder<Target>,
+    class: Class,
+    response: &Response<'_>,
+) -> Result<bool, AllocError> {
+    let glue = glue_of(alloc, response)?;
+    if !push_answers(alloc, message, class, response)? {
+        return Ok(false);
+    }
+    if !push_first(message, Section::Authority, class, response.authority()) {
+        return Ok(false);
+    }
+    Ok(push_glue(message, class, &glue))
+}
