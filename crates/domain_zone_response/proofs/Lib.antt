@@ -1,1 +1,2 @@
 mod Bits
+mod Growing

@@ -1,1 +1,5 @@
 pub mod Headers
+pub mod Included
+pub mod Pushing
+pub mod Responses
+pub mod Views

@@ -1,5 +1,7 @@
 //! The additional section of a referral.
 ghost use Rattle.std.specs.Prelude.{◌≤◌, length};
+ghost use Rattle.domain_message.specs.declared.section.Section.TheVariants.{Additional};
+ghost use Rattle.domain_zone_response.specs.Views.{GainsSome, FillsSome};
 
 use crate::rrset::push_rrset;
 use domain_header::Class;
@@ -47,7 +49,8 @@ fn push_all<Target: Composer>(
     class: Class,
     sets: &[SectionRrset<'_>],
 ) -> usize
-    ensures { result ≤ length sets.now }
+    ensures few { result ≤ length sets.now }
+    ensures some { GainsSome Additional message.old message.new }
 {
     for (index, set) in sets.iter().enumerate() {
         let pushed = push_rrset(message, Section::Additional, class, *set);
@@ -65,7 +68,9 @@ pub(crate) fn push_glue<Target: Composer>(
     message: &mut MessageBuilder<Target>,
     class: Class,
     glue: &Glue<'_>,
-) -> bool {
+) -> bool
+    ensures { FillsSome Additional message.old message.new }
+{
     let sets = glue.sets.as_slice();
     let whole = push_all(message, class, sets);
     if whole == sets.len() {

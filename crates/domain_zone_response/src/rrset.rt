@@ -1,4 +1,10 @@
 //! RRsets in a message.
+ghost use Rattle.std.specs.Prelude.{◌≡◌, ◌∷◌, [], IsTrue, IsFalse};
+ghost use Rattle.domain_header.specs.Values.{class_number};
+ghost use Rattle.domain_message_builder.specs.Builders.{state};
+ghost use Rattle.domain_zone_answer.specs.Views.{section_view, section_list};
+ghost use Rattle.domain_zone_response.specs.Pushing.{records_of, all_records};
+ghost use Rattle.domain_zone_response.specs.Views.{headed_record, GainsRecords, GainsSome, FillsRecords};
 
 use domain_header::{Class, Ttl};
 use domain_message::{Record, Section};
@@ -26,7 +32,11 @@ pub(crate) fn push_record<Target: Composer>(
     section: Section,
     head: Head<'_>,
     octets: &[u8],
-) -> bool {
+) -> bool
+    ensures pushed { IsTrue result →
+        GainsRecords section (headed_record head octets.now ∷ []) message.old message.new }
+    ensures refused { IsFalse result → state message.new ≡ state message.old }
+{
     let Ok(rdata) = UnknownRecordData::from_octets(Rtype::from_int(head.rtype), octets) else {
         return false;
     };
@@ -43,7 +53,11 @@ pub(crate) fn push_rrset<Target: Composer>(
     section: Section,
     class: Class,
     set: SectionRrset<'_>,
-) -> bool {
+) -> bool
+    ensures pushed { IsTrue result → GainsRecords section
+        (records_of (class_number class) (section_view set)) message.old message.new }
+    ensures some { GainsSome section message.old message.new }
+{
     let head = Head {
         owner: set.owner(),
         rtype: set.rtype(),
@@ -67,7 +81,11 @@ pub(crate) fn push_first<Target: Composer>(
     section: Section,
     class: Class,
     set: Option<SectionRrset<'_>>,
-) -> bool {
+) -> bool
+    ensures pushed { IsTrue result → FillsRecords section
+        (all_records (class_number class) (section_list set)) message.old message.new }
+    ensures left_out { IsFalse result → FillsRecords section [] message.old message.new }
+{
     let Some(set) = set else {
         return true;
     };

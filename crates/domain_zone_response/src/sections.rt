@@ -1,4 +1,11 @@
 //! The sections of a response.
+ghost use Rattle.std.specs.Prelude.{◌≡◌, ◌×◌, IfOk, IsTrue, IsFalse};
+ghost use Rattle.domain_header.specs.Values.{class_number};
+ghost use Rattle.domain_message.specs.declared.section.Section.TheVariants.{Answer};
+ghost use Rattle.domain_message_builder.specs.Builders.{state};
+ghost use Rattle.domain_zone_answer.specs.Views.{cname_view, response_sections};
+ghost use Rattle.domain_zone_response.specs.Pushing.{records_of, all_records};
+ghost use Rattle.domain_zone_response.specs.Views.{GainsRecords, FillsRecords, FillsFirst, PutsSections};
 
 use crate::glue::{glue_of, push_glue};
 use crate::rrset::{Head, push_first, push_record};
@@ -16,7 +23,11 @@ fn push_cname<Target: Composer>(
     message: &mut MessageBuilder<Target>,
     class: Class,
     cname: SynthesizedCname<'_>,
-) -> Result<bool, AllocError> {
+) -> Result<bool, AllocError>
+    ensures pushed { IfOk result (λ done. IsTrue done → GainsRecords Answer
+        (records_of (class_number class) (cname_view cname)) message.old message.new) }
+    ensures refused { IfOk result (λ done. IsFalse done → state message.new ≡ state message.old) }
+{
     let target = cname.target();
     let Ok(name) = target.to_vec(alloc) else {
         return Err(AllocError);
@@ -36,7 +47,13 @@ fn push_answers<Target: Composer>(
     message: &mut MessageBuilder<Target>,
     class: Class,
     response: &Response<'_>,
-) -> Result<bool, AllocError> {
+) -> Result<bool, AllocError>
+    ensures pushed { IfOk result (λ whole. IsTrue whole → FillsRecords Answer
+        (all_records (class_number class) (response_sections response.now).answer)
+        message.old message.new) }
+    ensures left_out { IfOk result (λ whole. IsFalse whole → FillsFirst Answer
+        (class_number class) (response_sections response.now).answer message.old message.new) }
+{
     let first = response.answer();
     if !push_first(message, Section::Answer, class, first) {
         return Ok(false);
@@ -54,7 +71,10 @@ pub(crate) fn push_sections<Target: Composer>(
     message: &mut MessageBuilder<Target>,
     class: Class,
     response: &Response<'_>,
-) -> Result<bool, AllocError> {
+) -> Result<bool, AllocError>
+    ensures { IfOk result (λ whole. PutsSections (class_number class)
+        (response_sections response.now) whole message.old message.new) }
+{
     let glue = glue_of(alloc, response)?;
     if !push_answers(alloc, message, class, response)? {
         return Ok(false);
