@@ -1,7 +1,7 @@
 #!/usr/bin/env python3
 """Asks the zones of the conformance table with `dnszone answer`, and compares each message, octet by octet, with that
-of the second writer (writer.py): every question of the table without EDNS, with EDNS of several sizes and with DO, over
-a datagram and over a stream, and queries that aren't answered.
+of second_writer.py of conformance_responses: every question of the table without EDNS, with EDNS of several sizes and
+with DO, over a datagram and over a stream, and queries that aren't answered.
 
     evidence/responses/check.py [--zones N] [--try]
 
@@ -11,48 +11,39 @@ messages."""
 
 import argparse
 import pathlib
-import struct
 import subprocess
 import sys
 
-import writer
-from writer import zones
+TOP = pathlib.Path(__file__).resolve().parents[2]
+sys.dont_write_bytecode = True
+sys.path.insert(0, str(TOP / "crates/conformance_responses"))
+from table import query, writer, zones
 
-TOP = pathlib.Path(__file__).parents[2]
-
-
-def query(labels, rtype, rclass=1, flags=0x0100, opts=(), counts=None, tail=b""):
-    """The octets of a query with one question, and OPT records of these owners, sizes and TTLs."""
-    counts = counts or (1, 0, 0, len(opts))
-    said = struct.pack(">HHHHHH", 0x1234, flags, *counts) + writer.wire(labels) + struct.pack(">HH", rtype, rclass)
-    for owner, size, ttl in opts:
-        said += writer.wire(owner) + struct.pack(">HHIH", zones.OPT, size, ttl, 0)
-    return said + tail
+SIZE = 1232
 
 
 def queries(asked):
     """Each question in several forms, and what is refused."""
     for name, rtype in asked:
-        labels = zones.labels_of(name)
-        yield query(labels, rtype)
-        yield query(labels, rtype, flags=0x0010, opts=[((), 1232, 0x8000)])
-        yield query(labels, rtype, opts=[((), 100, 0)])
-    labels, rtype = zones.labels_of(asked[0][0]), asked[0][1]
-    yield from (query(labels, it) for it in (0, 41, 249, 250, 251, 252, 253, 254, 255, 65535))
-    yield from (query(labels, rtype, rclass=it) for it in (0, 3, 254, 255))
-    yield from (query(labels, rtype, flags=it << 11 | 0x7BF) for it in range(16))
-    yield query(labels, rtype, flags=0x8000)
-    yield query(labels, rtype, opts=[((), 4096, 0x10000)])
-    yield query(labels, rtype, opts=[((), 4096, 0xFF8000)], flags=0x2800)
-    yield query(labels, rtype, opts=[((), 4096, 0x8000), ((), 512, 0)])
-    yield query(labels, rtype, opts=[(("a",), 4096, 0)])
-    yield query(labels, rtype, counts=(0, 0, 0, 0))
-    yield query(labels, rtype, counts=(2, 0, 0, 0))
-    yield query(labels, rtype, counts=(2, 0, 0, 0), tail=b"\0\0\1\0\1")
-    yield query(labels, rtype, counts=(1, 0, 0, 1))
-    yield query(labels, rtype, counts=(1, 1, 0, 0), tail=b"\0\0\1\0\1\0\0\0\0\0\1")
-    yield query(labels, rtype, tail=b"octets after the message")
-    whole = query(labels, rtype, opts=[((), 1232, 0)])
+        yield query(name, rtype)
+        yield query(name, rtype, flags=0x0010, opts=[(".", 1232, 0x8000)])
+        yield query(name, rtype, opts=[(".", 100, 0)])
+    name, rtype = asked[0]
+    yield from (query(name, it) for it in (0, 41, 249, 250, 251, 252, 253, 254, 255, 65535))
+    yield from (query(name, rtype, rclass=it) for it in (0, 3, 254, 255))
+    yield from (query(name, rtype, flags=it << 11 | 0x7BF) for it in range(16))
+    yield query(name, rtype, flags=0x8000)
+    yield query(name, rtype, opts=[(".", 4096, 0x10000)])
+    yield query(name, rtype, opts=[(".", 4096, 0xFF8000)], flags=0x2800)
+    yield query(name, rtype, opts=[(".", 4096, 0x8000), (".", 512, 0)])
+    yield query(name, rtype, opts=[("a.", 4096, 0)])
+    yield query(name, rtype, counts=(0, 0, 0, 0))
+    yield query(name, rtype, counts=(2, 0, 0, 0))
+    yield query(name, rtype, counts=(2, 0, 0, 0), tail=b"\0\0\1\0\1")
+    yield query(name, rtype, counts=(1, 0, 0, 1))
+    yield query(name, rtype, counts=(1, 1, 0, 0), tail=b"\0\0\1\0\1\0\0\0\0\0\1")
+    yield query(name, rtype, tail=b"octets after the message")
+    whole = query(name, rtype, opts=[(".", 1232, 0)])
     yield from (whole[:it] for it in range(len(whole)))
 
 
@@ -110,7 +101,7 @@ def main():
                 left_out += 1
                 break
             for octets, line in zip(sent, sent_lines):
-                expected = writer.response(zone, octets, stream)
+                expected = writer.response(zone, octets, stream, SIZE)
                 if line == ("" if expected is None else expected.hex()):
                     passed += 1
                     continue

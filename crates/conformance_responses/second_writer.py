@@ -5,11 +5,11 @@ import pathlib
 import struct
 import sys
 
-sys.path.insert(0, str(pathlib.Path(__file__).parents[2] / "crates/conformance_zones"))
+sys.path.insert(0, str(pathlib.Path(__file__).resolve().parents[1] / "conformance_zones"))
 import second as zones
 
 FORMERR, NOTIMP, REFUSED, BADVERS = 1, 4, 5, 16
-OWN_SIZE, STREAM = 1232, 65535
+LEAST, STREAM = 512, 65535
 
 
 def wire(labels):
@@ -172,14 +172,15 @@ def fill(writer, sections, room):
     return writer, counts, False
 
 
-def response(zone, octets, stream=False):
-    """The octets of the response to a query from a zone, or None."""
+def response(zone, octets, stream, size):
+    """The octets of the response to a query from a zone, by a server that states this size, or None."""
     if len(octets) < 12 or octets[2] & 128:
         return None
     query = Query(octets)
     code = refusal(query)
     edns = query.opts[0] if is_edns(query) else None
-    limit = STREAM if stream else min(max(edns[1], 512), OWN_SIZE) if edns else 512
+    own = max(size, LEAST)
+    limit = STREAM if stream else min(max(edns[1], LEAST), own) if edns else LEAST
     room = limit - 11 * has_opt(query)
     writer, counts, aa, cut = Writer(), [0, 0, 0], False, False
     if query.questions:
@@ -197,7 +198,7 @@ def response(zone, octets, stream=False):
         writer, counts, cut = fill(writer, sections, room)
     if has_opt(query):
         ttl = code >> 4 << 24 | (edns[2] & 0x8000 if edns else 0)
-        writer.octets += b"\0" + struct.pack(">HHIH", zones.OPT, OWN_SIZE, ttl, 0)
+        writer.octets += b"\0" + struct.pack(">HHIH", zones.OPT, own, ttl, 0)
         counts[2] += 1
     flags = 0x8000 | query.flags & 0x7910 | aa << 10 | cut << 9 | code & 15
     writer.octets[:12] = struct.pack(">HHHHHH", query.id, flags, asked, *counts)
