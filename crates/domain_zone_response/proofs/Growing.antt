@@ -1,15 +1,18 @@
 -- Records that are pushed one after the other.
-use Rattle.std.proofs.Common.{◌≡◌, ℕ, List, [], ◌∷◌, ◌++◌, map, refl, sym, ap, subst, ◌∙◌, append_assoc, append-nil}
+use Rattle.std.proofs.Common.{◌≡◌, ℕ, ◌<◌, ◌≤◌, ◌+◌, List, [], ◌∷◌, ◌++◌, map, take, drop, length, get_or, refl, sym, ap, subst, ◌∙◌, append_assoc, append-nil, drop-cons, take_all}
+use Rattle.std.proofs.lemmas.List.{take-append-drop, map-append, map_more}
 use Rattle.std.specs.Prelude.{Bool}
 use Rattle.domain_message.specs.declared.section.Section.{Section}
 use Rattle.domain_message.specs.declared.section.Section.TheVariants.{Answer, Authority, Additional}
 use Rattle.domain_message_builder.specs.Contents.{RecordHead, PushedRecord, Content, Holds}
 use Rattle.domain_message_builder.specs.Pushes.{SameSettings, record_added, emptied, PushesRecord, Rewinds}
+use Rattle.domain_message_builder.specs.Refusals.{RecordRefused}
 use Rattle.domain_message_builder.specs.State.{State}
-use Rattle.domain_zone_answer.specs.Sections.{Sections}
+use Rattle.domain_message_builder.specs.declared.error.PushError.{PushError}
+use Rattle.domain_message_builder.specs.declared.error.PushError.TheVariants.{Append, Long, Count, Limit, Order}
 use Rattle.domain_zone_laws.specs.Zone.{RRset}
-use Rattle.domain_zone_response.specs.Included.{AreKept, Puts}
-use Rattle.domain_zone_response.specs.Pushing.{record_of, records_of, all_records, with_records, Gains, Fills}
+use Rattle.domain_zone_response.specs.Pushing.{record_of, records_of, all_records, with_records, Gains, Fills, CannotAdd}
+use Rattle.domain_zone_response.specs.Pushing.CannotAdd.{no_room, over_limit, too_long, over_length, too_many, begun}
 
 -- nothing is added
 pub none_added : (section : Section) (it : Content) → with_records section [] it ≡ it
@@ -65,10 +68,43 @@ one_pushed c section h k May o a b p same is =
     let e : r ≡ s = λ i. record { head = same i; rdata = is _ _ p.octets.allowed.data_allowed i } in
     record { settings = p.settings; holds = λ it was. subst (Holds c b) (ap (record_added section it) e ∙ added section it s) (p.holds it was) }
 
--- the records of an RRset whose head is spelled so
-pub same_records : (k : ℕ) (s : RRset) (o : List (List ℕ)) (t m : ℕ) (ds : List (List ℕ)) → o ≡ s.owner → t ≡ s.rtype → m ≡ s.ttl
-    → map (λ d. record PushedRecord { head = record RecordHead { owner = o; rtype = t; class = k; ttl = m }; rdata = d }) ds ≡ map (record_of k s) ds
-same_records k s o t m ds a b c = λ i. map (λ d. record { head = record { owner = a i; rtype = b i; class = k; ttl = c i }; rdata = d }) ds
+-- what a record of these has before its data
+abbrev pub with_head : RecordHead → List ℕ → PushedRecord
+with_head h d = record { head = h; rdata = d }
+
+abbrev pub head_of_set : ℕ → RRset → RecordHead
+head_of_set k s = record { owner = s.owner; rtype = s.rtype; class = k; ttl = s.ttl }
+
+-- why a record was refused
+pub cannot_add : {E : Type 0} (c : Bool) (section : Section) (h : RecordHead) (d : List ℕ) (s : State) (room : ℕ) (e : PushError E) → RecordRefused c section h (λ _ o. o ≡ d) s room e → CannotAdd c section (with_head h d) s room
+cannot_add c section h d s room (Append e) why = no_room why
+cannot_add c section h d s room (Long e) why = too_long why
+cannot_add c section h d s room Count why = too_many why
+cannot_add c section h d s room Limit why = over_limit why
+cannot_add c section h d s room Order why = begun why
+
+pub cannot_add_as : {E : Type 0} (c : Bool) (section : Section) (h k : RecordHead) (o d : List ℕ) (s : State) (room : ℕ) (e : PushError E) → RecordRefused c section h (λ _ x. x ≡ o) s room e → h ≡ k → o ≡ d → CannotAdd c section (with_head k d) s room
+cannot_add_as c section h k o d s room e why same is =
+    let p : with_head h o ≡ with_head k d = λ i. record { head = same i; rdata = is i } in
+    subst (λ r. CannotAdd c section r s room) p (cannot_add c section h o s room e why)
+
+-- one element of a list, and those before and after it
+pub parted_at : {X Y : Type 0} (f : X → Y) (xs : List X) (i : ℕ) (d : X) → i < length xs → map f xs ≡ map f (take i xs) ++ f (get_or xs i d) ∷ map f (drop (suc i) xs)
+parted_at f xs i d lt = ap (map f) (sym (take-append-drop i xs)) ∙ (map-append f (take i xs) (drop i xs) ∙ ap (λ l. map f (take i xs) ++ map f l) (drop-cons xs i d lt))
+
+-- another head
+pub gains_as : (c : Bool) (section : Section) (h k : RecordHead) (ds : List (List ℕ)) (a b : State) → h ≡ k → Gains c section (map (with_head h) ds) a b → Gains c section (map (with_head k) ds) a b
+gains_as c section h k ds a b same x = subst (λ it. Gains c section (map (with_head it) ds) a b) same x
+
+-- one record more of some
+pub gains_more : {X : Type 0} (c : Bool) (section : Section) (f : X → PushedRecord) (xs : List X) (i : ℕ) (x : X) (a b d : State) → i < length xs → x ≡ get_or xs i x → Gains c section (map f (take i xs)) a b → Gains c section (f x ∷ []) b d → Gains c section (map f (take (i + 1) xs)) a d
+gains_more c section f xs i x a b d lt is y z =
+    let e : map f (take i xs) ++ f x ∷ [] ≡ map f (take (i + 1) xs) = ap (λ v. map f (take i xs) ++ f v ∷ []) is ∙ sym (map_more f xs i x lt) in
+    subst (λ rs. Gains c section rs a d) e (gains_both c section (map f (take i xs)) (f x ∷ []) a b d y z)
+
+-- all records of some
+pub gains_all : {X : Type 0} (c : Bool) (section : Section) (f : X → PushedRecord) (xs : List X) (i : ℕ) (a b : State) → length xs ≤ i → Gains c section (map f (take i xs)) a b → Gains c section (map f xs) a b
+gains_all c section f xs i a b all y = subst (λ l. Gains c section (map f l) a b) (take_all i xs all) y
 
 -- an RRset that was pushed is one of a list
 pub one_set : (k : ℕ) (s : RRset) → records_of k s ≡ all_records k (s ∷ [])
@@ -95,17 +131,6 @@ fills_more c section rs ss a b d x y = record {
   holds = λ it bare is. subst (Holds c d) (joined section rs ss it) (y.holds (with_records section rs it) (x.holds it bare is));
 }
 
--- the three sections, one after the other
-pub puts : (c : Bool) (k : ℕ) (all : Sections) (whole : Bool) (a b d e : State) (answer authority : List RRset) (rs : List PushedRecord)
-    → Fills c Answer (all_records k answer) a b → Fills c Authority (all_records k authority) b d → Fills c Additional rs d e → AreKept whole all answer authority
-    → Puts c k all whole a e
-puts c k all whole a b d e answer authority rs x y z kept = record {
-  settings = settings_stay a b e x.settings (settings_stay b d e y.settings z.settings);
-  answer = answer;
-  authority = authority;
-  additional = rs;
-  kept = kept;
-  holds = λ it bare.
-      subst (λ (w : Content). Holds c a w → Holds c e (record { questions = w.questions; answers = all_records k answer; authority = all_records k authority; additional = rs })) bare
-      (λ is. z.holds _ refl (y.holds _ refl (x.holds (emptied Answer it) refl is)));
-}
+-- The same state.
+pub fills_to : (c : Bool) (section : Section) (rs : List PushedRecord) (a b d : State) → d ≡ b → Fills c section rs a b → Fills c section rs a d
+fills_to c section rs a b d same x = subst (Fills c section rs a) (sym same) x

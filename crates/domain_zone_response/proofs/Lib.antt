@@ -1,2 +1,5 @@
 mod Bits
+mod Filling
 mod Growing
+mod Parting
+mod Responding

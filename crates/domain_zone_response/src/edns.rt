@@ -1,4 +1,8 @@
 //! What a query and a server say by EDNS (RFC 6891).
+ghost use Rattle.std.specs.Prelude.{◌≡◌};
+ghost use Rattle.domain_message.specs.OptRecords.{taken_size};
+ghost use Rattle.domain_message_builder.specs.OptViews.{opt_given};
+ghost use Rattle.domain_zone_response.specs.Edns.{response_limit, response_opt};
 
 use domain_message::{OptError, OptRecord};
 use domain_message_builder::OptBuilder;
@@ -22,12 +26,16 @@ pub struct Server {
 }
 
 /// The number, or 512 where it is less (RFC 6891, 6.2.5).
-fn at_least_512(size: u16) -> u16 {
+fn at_least_512(size: u16) -> u16
+    ensures { result ≡ taken_size size }
+{
     if size < 512 { 512 } else { size }
 }
 
 /// The most octets that a response has.
-pub(crate) fn limit_of(server: Server, asked: &Result<Option<OptRecord<'_>>, OptError>) -> u16 {
+pub(crate) fn limit_of(server: Server, asked: &Result<Option<OptRecord<'_>>, OptError>) -> u16
+    ensures { result ≡ response_limit server asked.now }
+{
     if let Transport::Stream = server.transport {
         return 65535;
     }
@@ -48,7 +56,9 @@ pub(crate) fn opt_for(
     server: Server,
     asked: &Result<Option<OptRecord<'_>>, OptError>,
     upper: u8,
-) -> Option<OptBuilder<&'static [u8]>> {
+) -> Option<OptBuilder<&'static [u8]>>
+    ensures { opt_given result ≡ response_opt server.payload_size asked.now upper }
+{
     let dnssec_ok = match asked {
         Ok(None) => return None,
         Err(OptError::Parse(_)) => return None,

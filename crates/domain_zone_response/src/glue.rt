@@ -1,11 +1,15 @@
 //! The additional section of a referral.
-ghost use Rattle.std.specs.Prelude.{◌≤◌, length};
+ghost use Rattle.std.specs.Prelude.{◌≡◌, ◌≤◌, ◌<◌, length, take, IfOk};
+ghost use Rattle.domain_header.specs.Values.{class_number};
 ghost use Rattle.domain_message.specs.declared.section.Section.TheVariants.{Additional};
-ghost use Rattle.domain_zone_response.specs.Views.{GainsSome, FillsSome};
+ghost use Rattle.domain_message_builder.specs.Builders.{target_room};
+ghost use Rattle.domain_zone_answer.specs.Views.{response_outcome, response_sections};
+ghost use Rattle.domain_zone_response.specs.Included.{cut_of};
+ghost use Rattle.domain_zone_response.specs.Pushing.{all_records};
+ghost use Rattle.domain_zone_response.specs.Views.{set_views, IsGlue, GainsSome, GainsRecords, FillsRecords, StopsAfter};
 
 use crate::rrset::push_rrset;
 use domain_header::Class;
-use domain_list::ToLabelIter;
 use domain_message::Section;
 use domain_message_builder::MessageBuilder;
 use domain_rdata::Composer;
@@ -17,29 +21,33 @@ use std::alloc::{AllocError, Global};
 #[derive(Drop)]
 pub(crate) struct Glue<'a> {
     /// The RRsets.
-    sets: Vec<SectionRrset<'a>>,
+    pub(crate) sets: Vec<SectionRrset<'a>>,
     /// How many of them are addresses of name servers at or below the cut: in-domain name servers, whose glue is
     /// required (RFC 9471, 3.1).
-    required: usize,
+    pub(crate) required: usize,
 }
 
 /// Returns the RRsets of the additional section in the order in which they are pushed (RFC 9471, 3.2).
-pub(crate) fn glue_of<'a>(alloc: Global, response: &Response<'a>) -> Result<Glue<'a>, AllocError> {
+pub(crate) fn glue_of<'a>(alloc: Global, response: &Response<'a>) -> Result<Glue<'a>, AllocError>
+    ensures { IfOk result (IsGlue (cut_of (response_outcome response.now))
+        (response_sections response.now).additional) }
+{
     let mut sets = Vec::new(alloc);
+    let mut others = Vec::new(alloc);
     let Answer::Referral(servers) = response.outcome() else {
         return Ok(Glue { sets, required: 0 });
     };
-    for set in response.additional() {
-        if set.owner().ends_with(&servers.owner.for_slice()) {
+    let cut = servers.owner.for_slice();
+    let mut addresses = response.additional();
+    while let Some(set) = addresses.next() {
+        if set.owner().ends_with(&cut) {
             sets.push(set)?;
+        } else {
+            others.push(set)?;
         }
     }
     let required = sets.len();
-    for set in response.additional() {
-        if !set.owner().ends_with(&servers.owner.for_slice()) {
-            sets.push(set)?;
-        }
-    }
+    sets.extend_from_slice(others.as_slice())?;
     Ok(Glue { sets, required })
 }
 
@@ -50,7 +58,12 @@ fn push_all<Target: Composer>(
     sets: &[SectionRrset<'_>],
 ) -> usize
     ensures few { result ≤ length sets.now }
+    ensures whole { result ≡ length sets.now → GainsRecords Additional
+        (all_records (class_number class) (set_views sets.now)) message.old message.new }
     ensures some { GainsSome Additional message.old message.new }
+    ensures stops { result < length sets.now → StopsAfter Additional (class_number class)
+        (set_views sets.now) result message.old }
+    ensures capacity { target_room message.old ≤ target_room message.new }
 {
     for (index, set) in sets.iter().enumerate() {
         let pushed = push_rrset(message, Section::Additional, class, *set);
@@ -61,26 +74,29 @@ fn push_all<Target: Composer>(
     sets.len()
 }
 
-/// Pushes as many RRsets as fit, each whole, and returns whether the required ones are among them.
+/// Pushes as many RRsets as fit, the first of the additional section, each whole. Returns how many.
 ///
 /// Where one doesn't fit, the section is taken away, and those before it are pushed again.
-pub(crate) fn push_glue<Target: Composer>(
+pub(crate) fn push_most<Target: Composer>(
     message: &mut MessageBuilder<Target>,
     class: Class,
-    glue: &Glue<'_>,
-) -> bool
-    ensures { FillsSome Additional message.old message.new }
+    sets: &[SectionRrset<'_>],
+) -> usize
+    ensures few { result ≤ length sets.now }
+    ensures fills { FillsRecords Additional
+        (all_records (class_number class) (take result (set_views sets.now)))
+        message.old message.new }
+    ensures stops { result < length sets.now → StopsAfter Additional (class_number class)
+        (set_views sets.now) result message.old }
+    ensures capacity { target_room message.old ≤ target_room message.new }
 {
-    let sets = glue.sets.as_slice();
-    let whole = push_all(message, class, sets);
-    if whole == sets.len() {
-        return true;
-    }
-    message.rewind(Section::Additional);
-    let again = push_all(message, class, &sets[..whole]);
-    if again < whole {
+    let mut count = sets.len();
+    'fewer: loop {
+        let whole = push_all(message, class, &sets[..count]);
+        if whole == count {
+            return count;
+        }
         message.rewind(Section::Additional);
-        return glue.required == 0;
+        count = whole;
     }
-    glue.required <= whole
 }

@@ -1,4 +1,11 @@
 //! What a query asks.
+ghost use Rattle.std.specs.Prelude.{◌≡◌};
+ghost use Rattle.domain_header.specs.Bits.{bits};
+ghost use Rattle.domain_header.specs.Headers.{header_high};
+ghost use Rattle.domain_header.specs.Values.{class_number};
+ghost use Rattle.domain_message.specs.Messages.{message_octets};
+ghost use Rattle.domain_zone_response.specs.Queries.{Asks, asked_fields};
+ghost use Rattle.domain_zone_response.specs.Queries.{header_code, type_code};
 
 use domain_header::{Class, Header};
 use domain_message::{Message, OptError, OptRecord, Question};
@@ -20,17 +27,28 @@ const BAD_VERSION: u8 = 16;
 ///
 /// IXFR, AXFR, MAILB and MAILA ask for what isn't done here: NOTIMP. No other meta type, nor 0, nor 65,535, is asked
 /// for (RFC 6895, 3.1): FORMERR.
-fn type_fault(qtype: u16) -> Option<u8> {
-    match qtype {
-        255 => None,
-        251..=254 => Some(NOT_IMPLEMENTED),
-        0 | 41 | 128..=250 | 65535 => Some(FORMAT_ERROR),
-        _ => None,
+fn type_fault(qtype: u16) -> Option<u8>
+    ensures { result ≡ type_code qtype }
+{
+    if qtype == 255 {
+        return None;
     }
+    if qtype > 250 && qtype < 256 {
+        return Some(NOT_IMPLEMENTED);
+    }
+    if qtype == 0 || qtype == 41 || qtype == 65535 {
+        return Some(FORMAT_ERROR);
+    }
+    if qtype > 127 && qtype < 256 {
+        return Some(FORMAT_ERROR);
+    }
+    None
 }
 
 /// Why a query with this header and this OPT record isn't answered, whatever it asks.
-fn header_fault(header: Header, asked: &Result<Option<OptRecord<'_>>, OptError>) -> Option<u8> {
+fn header_fault(header: Header, asked: &Result<Option<OptRecord<'_>>, OptError>) -> Option<u8>
+    ensures { result ≡ header_code (bits 8 16 (header_high header)) asked.now }
+{
     if let Ok(Some(opt)) = asked {
         if opt.version() > 0 {
             return Some(BAD_VERSION);
@@ -54,7 +72,9 @@ pub(crate) fn question_of<'a>(
     message: &'a Message<&[u8]>,
     asked: &Result<Option<OptRecord<'_>>, OptError>,
     class: Class,
-) -> Result<Question<ParsedName<&'a [u8]>>, u8> {
+) -> Result<Question<ParsedName<&'a [u8]>>, u8>
+    ensures { Asks (message_octets message.now) (class_number class) asked.now (asked_fields result) }
+{
     if let Some(code) = header_fault(message.header(), asked) {
         return Err(code);
     }

@@ -1,4 +1,16 @@
 //! The response to a query.
+ghost use Rattle.std.specs.Prelude.{◌≡◌, ◌≤◌, ◌/◌, ◌↔◌, [], ◌∷◌, ℕ, length, IfOk, IfSome, IsNone, Ok, Err};
+ghost use Rattle.domain_header.specs.Values.{class_number};
+ghost use Rattle.domain_message.specs.Messages.{message_octets};
+ghost use Rattle.domain_message.specs.Models.{question_fields};
+ghost use Rattle.domain_message_builder.specs.Builders.{state, target_room};
+ghost use Rattle.domain_message_builder.specs.Cuts.{with_opt};
+ghost use Rattle.domain_message_builder.specs.OptViews.{opt_given};
+ghost use Rattle.domain_zone.specs.Kept.{zone_view, zone_class};
+ghost use Rattle.domain_zone_response.specs.Edns.{opt_len};
+ghost use Rattle.domain_zone_response.specs.Queries.{IsNoQuery};
+ghost use Rattle.domain_zone_response.specs.Responses.{Responds};
+ghost use Rattle.domain_zone_response.specs.Finishing.{Finishes, BeginsMessage, Refuses, AnswersFrom};
 
 use crate::edns::{Server, limit_of, opt_for};
 use crate::error::ResponseError;
@@ -20,7 +32,9 @@ use std::alloc::Global;
 fn finish<Target: Composer + Drop>(
     message: MessageBuilder<Target>,
     opt: Option<OptBuilder<&'static [u8]>>,
-) -> Result<Target, ResponseError> {
+) -> Result<Target, ResponseError>
+    ensures { IfOk result (λ made. Finishes (opt_given opt) message (Target.octets made)) }
+{
     let mut message = message;
     if let Some(opt) = &opt {
         if let Err(_refused) = message.push_opt(opt) {
@@ -35,11 +49,17 @@ fn begin<Target: Composer + Drop>(
     target: Target,
     limit: u16,
     opt: &Option<OptBuilder<&'static [u8]>>,
-) -> Result<MessageBuilder<Target>, ResponseError> {
+) -> Result<MessageBuilder<Target>, ResponseError>
+    ensures begun { IfOk result (λ it. BeginsMessage limit (opt_len (opt_given opt.now)) it) }
+    ensures capacity { IfOk result (λ it. Target.capacity target ≤ target_room it) }
+{
     let Ok(mut message) = MessageBuilder::with_limit(target, limit) else {
         return Err(ResponseError::NoRoom);
     };
-    let aside = if let Some(_) = opt { 11 } else { 0 };
+    let aside = match opt {
+        Some(_) => 11,
+        None => 0,
+    };
     if let Err(_refused) = message.reserve(aside) {
         return Err(ResponseError::NoRoom);
     }
@@ -53,7 +73,10 @@ fn refuse<Target: Composer + Drop>(
     code: u8,
     message: MessageBuilder<Target>,
     opt: Option<OptBuilder<&'static [u8]>>,
-) -> Result<Target, ResponseError> {
+) -> Result<Target, ResponseError>
+    ensures { IfOk result (λ made. Refuses (message_octets query.now) code (opt_given opt) message
+        (Target.octets made)) }
+{
     let mut message = message;
     let verdict = Verdict {
         aa: false,
@@ -76,7 +99,11 @@ fn answer_from<Target: Composer + Drop>(
     query: Header,
     question: &Question<ParsedName<&[u8]>>,
     message: &mut MessageBuilder<Target>,
-) -> Result<(), ResponseError> {
+) -> Result<(), ResponseError>
+    ensures answers { IfOk result (λ _. AnswersFrom (zone_view zone.now)
+        (class_number (zone_class zone.now)) query (question_fields question.now)
+        message.old message.new) }
+{
     let Ok(qname) = question.qname().to_vec(alloc) else {
         return Err(ResponseError::Memory);
     };
@@ -105,7 +132,12 @@ pub fn respond_to<Target: Composer + Drop>(
     query: &[u8],
     server: Server,
     target: Target,
-) -> Result<Option<Target>, ResponseError> {
+) -> Result<Option<Target>, ResponseError>
+    ensures none { IfOk result (λ made. IsNone made ↔ IsNoQuery query.now) }
+    ensures responds { IfOk result (λ made. IfSome made (λ it. Responds Target.compresses
+        (zone_view zone.now) (class_number (zone_class zone.now)) server
+        (Target.capacity target) query.now (Target.octets it))) }
+{
     let Ok(query) = Message::from_octets(query) else {
         return Ok(None);
     };

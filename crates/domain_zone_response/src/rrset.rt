@@ -1,10 +1,11 @@
 //! RRsets in a message.
-ghost use Rattle.std.specs.Prelude.{◌≡◌, ◌∷◌, [], IsTrue, IsFalse};
+ghost use Rattle.std.specs.Prelude.{◌≡◌, ◌≤◌, ◌∷◌, [], IsTrue, IsFalse};
 ghost use Rattle.domain_header.specs.Values.{class_number};
-ghost use Rattle.domain_message_builder.specs.Builders.{state};
+ghost use Rattle.domain_message_builder.specs.Builders.{state, target_room};
 ghost use Rattle.domain_zone_answer.specs.Views.{section_view, section_list};
 ghost use Rattle.domain_zone_response.specs.Pushing.{records_of, all_records};
 ghost use Rattle.domain_zone_response.specs.Views.{headed_record, GainsRecords, GainsSome, FillsRecords};
+ghost use Rattle.domain_zone_response.specs.Views.{RecordCannotBeAdded, RrsetDoesNotFit, StopsPushing};
 
 use domain_header::{Class, Ttl};
 use domain_message::{Record, Section};
@@ -36,6 +37,9 @@ pub(crate) fn push_record<Target: Composer>(
     ensures pushed { IsTrue result →
         GainsRecords section (headed_record head octets.now ∷ []) message.old message.new }
     ensures refused { IsFalse result → state message.new ≡ state message.old }
+    ensures why { IsFalse result →
+        RecordCannotBeAdded section (headed_record head octets.now) message.old }
+    ensures capacity { target_room message.old ≤ target_room message.new }
 {
     let Ok(rdata) = UnknownRecordData::from_octets(Rtype::from_int(head.rtype), octets) else {
         return false;
@@ -57,6 +61,9 @@ pub(crate) fn push_rrset<Target: Composer>(
     ensures pushed { IsTrue result → GainsRecords section
         (records_of (class_number class) (section_view set)) message.old message.new }
     ensures some { GainsSome section message.old message.new }
+    ensures why { IsFalse result → RrsetDoesNotFit section (class_number class)
+        (section_view set) message.old }
+    ensures capacity { target_room message.old ≤ target_room message.new }
 {
     let head = Head {
         owner: set.owner(),
@@ -84,7 +91,9 @@ pub(crate) fn push_first<Target: Composer>(
 ) -> bool
     ensures pushed { IsTrue result → FillsRecords section
         (all_records (class_number class) (section_list set)) message.old message.new }
-    ensures left_out { IsFalse result → FillsRecords section [] message.old message.new }
+    ensures stops { IsFalse result → StopsPushing section (class_number class)
+        (section_list set) message.old message.new }
+    ensures capacity { target_room message.old ≤ target_room message.new }
 {
     let Some(set) = set else {
         return true;

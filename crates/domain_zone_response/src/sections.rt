@@ -1,13 +1,15 @@
 //! The sections of a response.
-ghost use Rattle.std.specs.Prelude.{◌≡◌, ◌×◌, IfOk, IsTrue, IsFalse};
+ghost use Rattle.std.specs.Prelude.{◌≡◌, ◌≤◌, IfOk, IsTrue, IsFalse};
 ghost use Rattle.domain_header.specs.Values.{class_number};
 ghost use Rattle.domain_message.specs.declared.section.Section.TheVariants.{Answer};
-ghost use Rattle.domain_message_builder.specs.Builders.{state};
-ghost use Rattle.domain_zone_answer.specs.Views.{cname_view, response_sections};
+ghost use Rattle.domain_message_builder.specs.Builders.{state, target_room};
+ghost use Rattle.domain_zone_answer.specs.Views.{cname_view, response_outcome, response_sections};
+ghost use Rattle.domain_zone_response.specs.Included.{cut_of};
 ghost use Rattle.domain_zone_response.specs.Pushing.{records_of, all_records};
-ghost use Rattle.domain_zone_response.specs.Views.{GainsRecords, FillsRecords, FillsFirst, PutsSections};
+ghost use Rattle.domain_zone_response.specs.Views.{GainsRecords, FillsRecords, RrsetDoesNotFit};
+ghost use Rattle.domain_zone_response.specs.Views.{StopsPushing, PutsSections};
 
-use crate::glue::{glue_of, push_glue};
+use crate::glue::{glue_of, push_most};
 use crate::rrset::{Head, push_first, push_record};
 use domain_header::Class;
 use domain_message::Section;
@@ -27,6 +29,9 @@ fn push_cname<Target: Composer>(
     ensures pushed { IfOk result (λ done. IsTrue done → GainsRecords Answer
         (records_of (class_number class) (cname_view cname)) message.old message.new) }
     ensures refused { IfOk result (λ done. IsFalse done → state message.new ≡ state message.old) }
+    ensures why { IfOk result (λ done. IsFalse done → RrsetDoesNotFit Answer
+        (class_number class) (cname_view cname) message.old) }
+    ensures capacity { target_room message.old ≤ target_room message.new }
 {
     let target = cname.target();
     let Ok(name) = target.to_vec(alloc) else {
@@ -51,8 +56,9 @@ fn push_answers<Target: Composer>(
     ensures pushed { IfOk result (λ whole. IsTrue whole → FillsRecords Answer
         (all_records (class_number class) (response_sections response.now).answer)
         message.old message.new) }
-    ensures left_out { IfOk result (λ whole. IsFalse whole → FillsFirst Answer
+    ensures stops { IfOk result (λ whole. IsFalse whole → StopsPushing Answer
         (class_number class) (response_sections response.now).answer message.old message.new) }
+    ensures capacity { target_room message.old ≤ target_room message.new }
 {
     let first = response.answer();
     if !push_first(message, Section::Answer, class, first) {
@@ -72,8 +78,10 @@ pub(crate) fn push_sections<Target: Composer>(
     class: Class,
     response: &Response<'_>,
 ) -> Result<bool, AllocError>
-    ensures { IfOk result (λ whole. PutsSections (class_number class)
-        (response_sections response.now) whole message.old message.new) }
+    ensures puts { IfOk result (λ whole. PutsSections (class_number class)
+        (cut_of (response_outcome response.now)) (response_sections response.now) whole
+        message.old message.new) }
+    ensures capacity { target_room message.old ≤ target_room message.new }
 {
     let glue = glue_of(alloc, response)?;
     if !push_answers(alloc, message, class, response)? {
@@ -82,5 +90,6 @@ pub(crate) fn push_sections<Target: Composer>(
     if !push_first(message, Section::Authority, class, response.authority()) {
         return Ok(false);
     }
-    Ok(push_glue(message, class, &glue))
+    let count = push_most(message, class, glue.sets.as_slice());
+    Ok(glue.required <= count)
 }
