@@ -1,5 +1,5 @@
 -- Records that are pushed one after the other.
-use Rattle.std.proofs.Common.{◌≡◌, ℕ, ◌<◌, ◌≤◌, ◌+◌, List, [], ◌∷◌, ◌++◌, map, take, drop, length, get_or, refl, sym, ap, subst, ◌∙◌, append_assoc, append-nil, drop-cons, take_all}
+use Rattle.std.proofs.Common.{◌≡◌, ℕ, ◌<◌, ◌≤◌, ◌+◌, suc, List, [], ◌∷◌, ◌++◌, map, take, drop, length, get_or, refl, sym, ap, subst, ◌∙◌, append_assoc, append-nil, drop-cons, take_all}
 use Rattle.std.proofs.lemmas.List.{take-append-drop, map-append, map_more}
 use Rattle.std.specs.Prelude.{Bool}
 use Rattle.domain_message.specs.declared.section.Section.{Section}
@@ -55,9 +55,11 @@ gains_both c section rs ss a b d x y = record {
 }
 
 -- what a record says before its data
-pub head_is : (o p : List (List ℕ)) (t u k l m n : ℕ) → o ≡ p → t ≡ u → k ≡ l → m ≡ n
-    → record RecordHead { owner = o; rtype = t; class = k; ttl = m } ≡ record RecordHead { owner = p; rtype = u; class = l; ttl = n }
-head_is o p t u k l m n a b c d = λ i. record { owner = a i; rtype = b i; class = c i; ttl = d i }
+abbrev pub head_with : List (List ℕ) → ℕ → ℕ → ℕ → RecordHead
+head_with o t k m = record { owner = o; rtype = t; class = k; ttl = m }
+
+pub head_is : (o p : List (List ℕ)) (t u k l m n : ℕ) → o ≡ p → t ≡ u → k ≡ l → m ≡ n → head_with o t k m ≡ head_with p u l n
+head_is o p t u k l m n a b c d = λ i. head_with (a i) (b i) (c i) (d i)
 
 -- a record was pushed
 pub one_pushed : (c : Bool) (section : Section) (h k : RecordHead) (May : List ℕ → List ℕ → Type 0) (o : List ℕ) (a b : State) → PushesRecord c section h May a b → h ≡ k → ((t s : List ℕ) → May t s → s ≡ o)

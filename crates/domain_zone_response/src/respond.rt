@@ -33,7 +33,7 @@ fn finish<Target: Composer + Drop>(
     message: MessageBuilder<Target>,
     opt: Option<OptBuilder<&'static [u8]>>,
 ) -> Result<Target, ResponseError>
-    ensures { IfOk result (λ made. Finishes (opt_given opt) message (Target.octets made)) }
+    ensures { IfOk result (λ made. Finishes (opt_given opt.entry) message (Target.octets made)) }
 {
     let mut message = message;
     if let Some(opt) = &opt {
@@ -74,8 +74,8 @@ fn refuse<Target: Composer + Drop>(
     message: MessageBuilder<Target>,
     opt: Option<OptBuilder<&'static [u8]>>,
 ) -> Result<Target, ResponseError>
-    ensures { IfOk result (λ made. Refuses (message_octets query.now) code (opt_given opt) message
-        (Target.octets made)) }
+    ensures { IfOk result (λ made. Refuses (message_octets query.now) code (opt_given opt.entry)
+        message (Target.octets made)) }
 {
     let mut message = message;
     let verdict = Verdict {

@@ -35,10 +35,10 @@ pub(crate) fn push_record<Target: Composer>(
     octets: &[u8],
 ) -> bool
     ensures pushed { IsTrue result →
-        GainsRecords section (headed_record head octets.now ∷ []) message.old message.new }
+        GainsRecords section (headed_record head.entry octets.now ∷ []) message.old message.new }
     ensures refused { IsFalse result → state message.new ≡ state message.old }
     ensures why { IsFalse result →
-        RecordCannotBeAdded section (headed_record head octets.now) message.old }
+        RecordCannotBeAdded section (headed_record head.entry octets.now) message.old }
     ensures capacity { target_room message.old ≤ target_room message.new }
 {
     let Ok(rdata) = UnknownRecordData::from_octets(Rtype::from_int(head.rtype), octets) else {
@@ -59,10 +59,10 @@ pub(crate) fn push_rrset<Target: Composer>(
     set: SectionRrset<'_>,
 ) -> bool
     ensures pushed { IsTrue result → GainsRecords section
-        (records_of (class_number class) (section_view set)) message.old message.new }
+        (records_of (class_number class) (section_view set.entry)) message.old message.new }
     ensures some { GainsSome section message.old message.new }
     ensures why { IsFalse result → RrsetDoesNotFit section (class_number class)
-        (section_view set) message.old }
+        (section_view set.entry) message.old }
     ensures capacity { target_room message.old ≤ target_room message.new }
 {
     let head = Head {
@@ -90,9 +90,9 @@ pub(crate) fn push_first<Target: Composer>(
     set: Option<SectionRrset<'_>>,
 ) -> bool
     ensures pushed { IsTrue result → FillsRecords section
-        (all_records (class_number class) (section_list set)) message.old message.new }
+        (all_records (class_number class) (section_list set.entry)) message.old message.new }
     ensures stops { IsFalse result → StopsPushing section (class_number class)
-        (section_list set) message.old message.new }
+        (section_list set.entry) message.old message.new }
     ensures capacity { target_room message.old ≤ target_room message.new }
 {
     let Some(set) = set else {

@@ -27,10 +27,10 @@ fn push_cname<Target: Composer>(
     cname: SynthesizedCname<'_>,
 ) -> Result<bool, AllocError>
     ensures pushed { IfOk result (λ done. IsTrue done → GainsRecords Answer
-        (records_of (class_number class) (cname_view cname)) message.old message.new) }
+        (records_of (class_number class) (cname_view cname.entry)) message.old message.new) }
     ensures refused { IfOk result (λ done. IsFalse done → state message.new ≡ state message.old) }
     ensures why { IfOk result (λ done. IsFalse done → RrsetDoesNotFit Answer
-        (class_number class) (cname_view cname) message.old) }
+        (class_number class) (cname_view cname.entry) message.old) }
     ensures capacity { target_room message.old ≤ target_room message.new }
 {
     let target = cname.target();
