@@ -11,7 +11,7 @@ use Rattle.domain_message_builder.specs.State.{State}
 use Rattle.domain_message_builder.specs.declared.error.PushError.{PushError}
 use Rattle.domain_message_builder.specs.declared.error.PushError.TheVariants.{Append, Long, Count, Limit, Order}
 use Rattle.domain_zone_laws.specs.Zone.{RRset}
-use Rattle.domain_zone_response.specs.Pushing.{record_of, records_of, all_records, with_records, Gains, Fills, CannotAdd}
+use Rattle.domain_zone_response.specs.Pushing.{record_of, records_of, all_records, with_records, Gains, Fills, CannotAdd, DoesNotFit}
 use Rattle.domain_zone_response.specs.Pushing.CannotAdd.{no_room, over_limit, too_long, over_length, too_many, begun}
 
 -- nothing is added
@@ -136,3 +136,34 @@ fills_more c section rs ss a b d x y = record {
 -- The same state.
 pub fills_to : (c : Bool) (section : Section) (rs : List PushedRecord) (a b d : State) → d ≡ b → Fills c section rs a b → Fills c section rs a d
 fills_to c section rs a b d same x = subst (Fills c section rs a) (sym same) x
+
+map_twice : {X : Type 0} (h : RecordHead) (f : X → List ℕ) (xs : List X) → map (λ d. with_head h (f d)) xs ≡ map (with_head h) (map f xs)
+map_twice h f [] = refl
+map_twice h f (x ∷ xs) = ap (λ l. with_head h (f x) ∷ l) (map_twice h f xs)
+
+-- All records of an RRset were pushed.
+pub whole_rrset : {X : Type 0} (c : Bool) (section : Section) (h : RecordHead) (k : ℕ) (s : RRset) (f : X → List ℕ) (xs : List X) (i : ℕ) (a b : State) → length xs ≤ i → h ≡ head_of_set k s → map f xs ≡ s.rdata
+    → Gains c section (map (λ d. with_head h (f d)) (take i xs)) a b → Gains c section (records_of k s) a b
+whole_rrset c section h k s f xs i a b all same is x =
+    let y : Gains c section (map (λ d. with_head h (f d)) xs) a b = gains_all c section (λ d. with_head h (f d)) xs i a b all x in
+    let z : Gains c section (map (with_head h) s.rdata) a b = subst (λ rs. Gains c section rs a b) (map_twice h f xs ∙ ap (map (with_head h)) is) y in
+    gains_as c section h (head_of_set k s) s.rdata a b same z
+
+-- A record of an RRset was refused.
+pub rrset_stops : {X : Type 0} (c : Bool) (section : Section) (h : RecordHead) (k : ℕ) (s : RRset) (f : X → List ℕ) (xs : List X) (i : ℕ) (x : X) (d : List ℕ) (a b : State) (less room : ℕ)
+    → i < length xs → x ≡ get_or xs i x → d ≡ f x → h ≡ head_of_set k s → map f xs ≡ s.rdata → less ≤ room
+    → Gains c section (map (λ y. with_head h (f y)) (take i xs)) a b → CannotAdd c section (with_head h d) b room → DoesNotFit c section k s less a
+rrset_stops c section h k s f xs i x d a b less room lt is value same data_is enough y why =
+    let z : Gains c section (map (with_head h) (map f (take i xs))) a b = subst (λ rs. Gains c section rs a b) (map_twice h f (take i xs)) y in
+    let r : with_head h d ≡ with_head (head_of_set k s) (f x) = λ j. with_head (same j) (value j) in
+    record {
+      front = map f (take i xs);
+      next = f x;
+      rest = map f (drop (suc i) xs);
+      split = sym data_is ∙ (parted_at f xs i x lt ∙ ap (λ v. map f (take i xs) ++ f v ∷ map f (drop (suc i) xs)) (sym is));
+      at = b;
+      gains = gains_as c section h (head_of_set k s) (map f (take i xs)) a b same z;
+      room = room;
+      enough = enough;
+      why = subst (λ v. CannotAdd c section v b room) r why;
+    }
