@@ -1,6 +1,6 @@
 -- Records that are pushed one after the other.
-use Rattle.std.proofs.Common.{◌≡◌, ℕ, ◌<◌, ◌≤◌, ◌+◌, suc, List, [], ◌∷◌, ◌++◌, map, take, drop, length, get_or, refl, sym, ap, subst, ◌∙◌, append_assoc, append-nil, drop-cons, take_all}
-use Rattle.std.proofs.lemmas.List.{take-append-drop, map-append, map_more}
+use Rattle.std.proofs.Common.{◌≡◌, ℕ, ◌<◌, ◌≤◌, ◌+◌, suc, List, [], ◌∷◌, ◌++◌, map, take, drop, length, get_or, refl, sym, ap, subst, ◌∙◌, append_assoc, append-nil, drop-cons, take_all, arith}
+use Rattle.std.proofs.lemmas.List.{take-append-drop, map-append, map_more, length-map, length-take-le, take-map}
 use Rattle.std.specs.Prelude.{Bool}
 use Rattle.domain_message.specs.declared.section.Section.{Section}
 use Rattle.domain_message.specs.declared.section.Section.TheVariants.{Answer, Authority, Additional}
@@ -11,7 +11,7 @@ use Rattle.domain_message_builder.specs.State.{State}
 use Rattle.domain_message_builder.specs.declared.error.PushError.{PushError}
 use Rattle.domain_message_builder.specs.declared.error.PushError.TheVariants.{Append, Long, Count, Limit, Order}
 use Rattle.domain_zone_laws.specs.Zone.{RRset}
-use Rattle.domain_zone_response.specs.Pushing.{record_of, records_of, all_records, with_records, Gains, Fills, CannotAdd, DoesNotFit}
+use Rattle.domain_zone_response.specs.Pushing.{record_of, records_of, all_records, with_records, Gains, Fills, CannotAdd, DoesNotFit, StopsAt, Stops}
 use Rattle.domain_zone_response.specs.Pushing.CannotAdd.{no_room, over_limit, too_long, over_length, too_many, begun}
 
 -- nothing is added
@@ -167,3 +167,57 @@ rrset_stops c section h k s f xs i x d a b less room lt is value same data_is en
       enough = enough;
       why = subst (λ v. CannotAdd c section v b room) r why;
     }
+
+-- An RRset that is the first of its section was taken away again.
+pub stops_first : (c : Bool) (section : Section) (k : ℕ) (xs : List RRset) (s : RRset) (rs : List PushedRecord) (cap : ℕ) (a b d : State) → xs ≡ s ∷ [] → DoesNotFit c section k s cap a → Gains c section rs a b → Rewinds c section b d
+    → Stops c section k xs cap a d
+stops_first c section k xs s rs cap a b d is why some back =
+    (record { kept = []; next = s; rest = []; split = is; at = a; fills = fills_nothing c section a; room = cap; enough = omega arith; why = why },
+    fills_none c section rs a b d some back)
+
+-- An RRset of a list was refused.
+pub sets_stop : {X : Type 0} (c : Bool) (section : Section) (k : ℕ) (f : X → RRset) (xs : List X) (i : ℕ) (x : X) (a b : State) (less room : ℕ) → i < length xs → x ≡ get_or xs i x → less ≤ room
+    → Gains c section (all_records k (map f (take i xs))) a b → DoesNotFit c section k (f x) room b → (s : StopsAt c section k (map f xs) less a) × (length s.kept ≡ i)
+sets_stop c section k f xs i x a b less room lt is enough y why =
+    (record {
+      kept = map f (take i xs);
+      next = f x;
+      rest = map f (drop (suc i) xs);
+      split = parted_at f xs i x lt ∙ ap (λ v. map f (take i xs) ++ f v ∷ map f (drop (suc i) xs)) (sym is);
+      at = b;
+      fills = fills c section (all_records k (map f (take i xs))) a b y;
+      room = room;
+      enough = enough;
+      why = why;
+    },
+    length-map (take i xs) f ∙ length-take-le i xs (omega (arith, lt)))
+
+-- Nothing was pushed, and then a section was filled.
+pub fills_after : (c : Bool) (section : Section) (rs : List PushedRecord) (a b d : State) → Fills c section [] a b → Fills c section rs b d → Fills c section rs a d
+fills_after c section rs a b d x y = record {
+  settings = settings_stay a b d x.settings y.settings;
+  holds = λ it bare is. y.holds it bare (subst (Holds c b) (none_added section it) (x.holds it bare is));
+}
+
+-- The first n of a list were pushed, each whole.
+pub fills_first : {X : Type 0} (c : Bool) (section : Section) (k : ℕ) (f : X → RRset) (xs : List X) (n : ℕ) (a b d : State) → Fills c section [] a b → Gains c section (all_records k (map f (take n xs))) b d → Fills c section (all_records k (take n (map f xs))) a d
+fills_first c section k f xs n a b d x y =
+    subst (λ l. Fills c section (all_records k l) a d) (sym (take-map f n xs)) (fills_after c section _ a b d x (fills c section _ b d y))
+
+-- What stops the first n of a list stops the list.
+pub stops_list : {X : Type 0} (c : Bool) (section : Section) (k : ℕ) (f : X → RRset) (xs : List X) (n m : ℕ) (a b : State) (less more : ℕ) → less ≤ more → Fills c section [] a b
+    → (s : StopsAt c section k (map f (take n xs)) more b) × (length s.kept ≡ m) → (s : StopsAt c section k (map f xs) less a) × (length s.kept ≡ m)
+stops_list c section k f xs n m a b less more le x (s, len) =
+    let whole : map f xs ≡ map f (take n xs) ++ map f (drop n xs) = ap (map f) (sym (take-append-drop n xs)) ∙ map-append f (take n xs) (drop n xs) in
+    (record {
+      kept = s.kept;
+      next = s.next;
+      rest = s.rest ++ map f (drop n xs);
+      split = whole ∙ (ap (λ l. l ++ map f (drop n xs)) s.split ∙ append_assoc s.kept (s.next ∷ s.rest) (map f (drop n xs)));
+      at = s.at;
+      fills = fills_after c section (all_records k s.kept) a b s.at x s.fills;
+      room = s.room;
+      enough = omega (arith, le, s.enough);
+      why = s.why;
+    },
+    len)

@@ -1,8 +1,12 @@
 -- Addresses that are required, and others.
 use Rattle.std.proofs.Common.{◌≡◌, ℕ, List, [], ◌∷◌, ◌++◌, refl, sym, subst, ◌∙◌, append_assoc, append-nil}
+use Rattle.std.proofs.lemmas.List.{map-append}
 use Rattle.domain_list.specs.Ends.{EndsWith}
+use Rattle.domain_zone_answer.specs.Views.{section_view}
+use Rattle.domain_zone_answer.specs.declared.section.SectionRrset.{SectionRrset}
 use Rattle.domain_zone_laws.specs.Zone.{RRset}
 use Rattle.domain_zone_response.specs.Included.{Parts}
+use Rattle.domain_zone_response.specs.Views.{set_views}
 use Rattle.domain_zone_response.specs.Included.Parts.{none, required, other}
 
 -- Whatever the parts of what is left are, they go on with those of all.
@@ -25,3 +29,9 @@ takes_other cut all left rest ys zs us s is beside more on vs ws p =
 pub ends : (cut : List (List ℕ)) (all left ys zs : List RRset) → left ≡ [] → GoesOn cut all left ys zs → Parts cut all ys zs
 ends cut all left ys zs is on =
     subst (λ l. Parts cut all l zs) (append-nil ys) (subst (λ l. Parts cut all (ys ++ []) l) (append-nil zs) (on [] [] (subst (λ l. Parts cut l [] []) (sym is) none)))
+
+pub ends_as : (o p cut k : List (List ℕ)) → o ≡ p → cut ≡ k → EndsWith o cut → EndsWith p k
+ends_as o p cut k e f x = subst (λ l. EndsWith l k) e (subst (EndsWith o) f x)
+
+pub set_more : (xs : List SectionRrset) (s : SectionRrset) → set_views (xs ++ s ∷ []) ≡ set_views xs ++ section_view s ∷ []
+set_more xs s = map-append section_view xs (s ∷ [])

@@ -1,5 +1,6 @@
 -- Which RRsets of its sections a response has, where not all fit.
 use Rattle.std.specs.Prelude.{◌≡◌, ℕ, ◌<◌, ◌≤◌, Bool, true, false, List, [], ◌∷◌, ◌++◌, length, take}
+use Rattle.domain_label.specs.Wire.{Root}
 use Rattle.domain_list.specs.Ends.{EndsWith}
 use Rattle.domain_message.specs.declared.section.Section.{Section}
 use Rattle.domain_message.specs.declared.section.Section.TheVariants.{Answer, Authority, Additional}
@@ -11,15 +12,15 @@ use Rattle.domain_zone_laws.specs.Answers.{Outcome, out_of_zone, referral, found
 use Rattle.domain_zone_laws.specs.Zone.{RRset}
 use Rattle.domain_zone_response.specs.Pushing.{all_records, DoesNotFit}
 
--- The name of the cut of a referral. In another response there are no addresses.
+-- The name of the cut of a referral. In another response, where there are no addresses, the root.
 abbrev pub cut_of : Outcome → List (List ℕ)
-cut_of out_of_zone = []
+cut_of out_of_zone = Root
 cut_of (referral s) = s.owner
-cut_of (found r) = []
-cut_of (redirect s n) = []
-cut_of (too_long s) = []
-cut_of (synthesized r) = []
-cut_of name_error = []
+cut_of (found r) = Root
+cut_of (redirect s n) = Root
+cut_of (too_long s) = Root
+cut_of (synthesized r) = Root
+cut_of name_error = Root
 
 -- Of the addresses xs, the RRsets ys are those at or below the cut, in their order, and zs the others: glue of in-domain
 -- name servers is required (RFC 9471, 3.1).

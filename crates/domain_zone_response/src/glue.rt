@@ -3,6 +3,8 @@ ghost use Rattle.std.specs.Prelude.{◌≡◌, ◌≤◌, ◌<◌, length, take,
 ghost use Rattle.domain_header.specs.Values.{class_number};
 ghost use Rattle.domain_message.specs.declared.section.Section.TheVariants.{Additional};
 ghost use Rattle.domain_message_builder.specs.Builders.{target_room};
+ghost use Rattle.domain_name.specs.Names.{name_labels};
+ghost use Rattle.domain_zone.specs.Outcomes.{outcome_of};
 ghost use Rattle.domain_zone_answer.specs.Views.{response_outcome, response_sections};
 ghost use Rattle.domain_zone_response.specs.Included.{cut_of};
 ghost use Rattle.domain_zone_response.specs.Pushing.{all_records};
@@ -12,6 +14,7 @@ use crate::rrset::push_rrset;
 use domain_header::Class;
 use domain_message::Section;
 use domain_message_builder::MessageBuilder;
+use domain_name::Name;
 use domain_rdata::Composer;
 use domain_zone::Answer;
 use domain_zone_answer::{Response, SectionRrset};
@@ -27,6 +30,21 @@ pub(crate) struct Glue<'a> {
     pub(crate) required: usize,
 }
 
+/// Returns the owner of the name servers of a referral, and else the root.
+fn cut_name<'a>(outcome: &Answer<'a>) -> Name<&'a [u8]>
+    ensures { name_labels result ≡ cut_of (outcome_of outcome.now) }
+{
+    match outcome {
+        Answer::OutOfZone => Name::root_ref(),
+        Answer::Referral(servers) => servers.owner.for_slice(),
+        Answer::Found(_) => Name::root_ref(),
+        Answer::Redirect(_, _) => Name::root_ref(),
+        Answer::TooLong(_) => Name::root_ref(),
+        Answer::Synthesized(_) => Name::root_ref(),
+        Answer::NameError => Name::root_ref(),
+    }
+}
+
 /// Returns the RRsets of the additional section in the order in which they are pushed (RFC 9471, 3.2).
 pub(crate) fn glue_of<'a>(alloc: Global, response: &Response<'a>) -> Result<Glue<'a>, AllocError>
     ensures { IfOk result (IsGlue (cut_of (response_outcome response.now))
@@ -34,10 +52,7 @@ pub(crate) fn glue_of<'a>(alloc: Global, response: &Response<'a>) -> Result<Glue
 {
     let mut sets = Vec::new(alloc);
     let mut others = Vec::new(alloc);
-    let Answer::Referral(servers) = response.outcome() else {
-        return Ok(Glue { sets, required: 0 });
-    };
-    let cut = servers.owner.for_slice();
+    let cut = cut_name(response.outcome());
     let mut addresses = response.additional();
     while let Some(set) = addresses.next() {
         if set.owner().ends_with(&cut) {
@@ -46,7 +61,7 @@ pub(crate) fn glue_of<'a>(alloc: Global, response: &Response<'a>) -> Result<Glue
             others.push(set)?;
         }
     }
-    let required = sets.len();
+    let required = sets.as_slice().len();
     sets.extend_from_slice(others.as_slice())?;
     Ok(Glue { sets, required })
 }
