@@ -91,5 +91,8 @@ pub(crate) fn push_sections<Target: Composer>(
         return Ok(false);
     }
     let count = push_most(message, class, glue.sets.as_slice());
-    Ok(glue.required <= count)
+    if count < glue.required {
+        return Ok(false);
+    }
+    Ok(true)
 }
