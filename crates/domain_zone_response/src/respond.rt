@@ -1,15 +1,14 @@
 //! The response to a query.
-ghost use Rattle.std.specs.Prelude.{◌≡◌, ◌≤◌, ◌/◌, ◌↔◌, [], ◌∷◌, ℕ, length, IfOk, IfSome, IsNone, Ok, Err};
+ghost use Rattle.std.specs.Prelude.{◌≡◌, ◌≤◌, ◌↔◌, IfOk, IfSome, IsNone};
 ghost use Rattle.domain_header.specs.Values.{class_number};
 ghost use Rattle.domain_message.specs.Messages.{message_octets};
 ghost use Rattle.domain_message.specs.Models.{question_fields};
-ghost use Rattle.domain_message_builder.specs.Builders.{state, target_room};
-ghost use Rattle.domain_message_builder.specs.Cuts.{with_opt};
+ghost use Rattle.domain_message_builder.specs.Builders.{target_room};
 ghost use Rattle.domain_message_builder.specs.OptViews.{opt_given};
 ghost use Rattle.domain_zone.specs.Kept.{zone_view, zone_class};
 ghost use Rattle.domain_zone_response.specs.Edns.{opt_len};
-ghost use Rattle.domain_zone_response.specs.Queries.{IsNoQuery};
-ghost use Rattle.domain_zone_response.specs.Responses.{Responds};
+ghost use Rattle.domain_zone_response.specs.Queries.{IsNoQuery, asked_fields};
+ghost use Rattle.domain_zone_response.specs.Responses.{Responds, upper_bits};
 ghost use Rattle.domain_zone_response.specs.Finishing.{Finishes, BeginsMessage, Refuses, AnswersFrom};
 
 use crate::edns::{Server, limit_of, opt_for};
@@ -36,10 +35,11 @@ fn finish<Target: Composer + Drop>(
     ensures { IfOk result (λ made. Finishes (opt_given opt.entry) message (Target.octets made)) }
 {
     let mut message = message;
-    if let Some(opt) = &opt {
-        if let Err(_refused) = message.push_opt(opt) {
-            return Err(ResponseError::NoRoom);
-        }
+    let Some(opt) = &opt else {
+        return Ok(message.finish());
+    };
+    if let Err(_refused) = message.push_opt(opt) {
+        return Err(ResponseError::NoRoom);
     }
     Ok(message.finish())
 }
@@ -66,6 +66,16 @@ fn begin<Target: Composer + Drop>(
     Ok(message)
 }
 
+/// The upper bits of the response code of a response.
+fn upper_of(question: &Result<Question<ParsedName<&[u8]>>, u8>) -> u8
+    ensures { result ≡ upper_bits (asked_fields question.now) }
+{
+    match question {
+        Ok(_) => 0,
+        Err(code) => *code / 16,
+    }
+}
+
 /// The response to a query that is refused with a response code: a header, the first question if it can be read, and
 /// an OPT record.
 fn refuse<Target: Composer + Drop>(
@@ -81,13 +91,14 @@ fn refuse<Target: Composer + Drop>(
     let verdict = Verdict {
         aa: false,
         tc: false,
-        rcode: Rcode::masked_from_int(code % 16),
+        rcode: Rcode::masked_from_int(code),
     };
     message.set_header(response_header(query.header(), verdict));
-    if let Some(question) = query.first_question() {
-        if let Err(_refused) = message.push_question(&question) {
-            return Err(ResponseError::NoRoom);
-        }
+    let Some(question) = query.first_question() else {
+        return finish(message, opt);
+    };
+    if let Err(_refused) = message.push_question(&question) {
+        return Err(ResponseError::NoRoom);
     }
     finish(message, opt)
 }
@@ -146,11 +157,7 @@ pub fn respond_to<Target: Composer + Drop>(
     }
     let asked = opt_of(&query);
     let question = question_of(&query, &asked, zone.class());
-    let upper = match &question {
-        Ok(_) => 0,
-        Err(code) => *code / 16,
-    };
-    let opt = opt_for(server, &asked, upper);
+    let opt = opt_for(server, &asked, upper_of(&question));
     let mut message = begin(target, limit_of(server, &asked), &opt)?;
     match &question {
         Ok(question) => {
