@@ -1,6 +1,6 @@
 -- A response, put together.
 use Rattle.std.proofs.Common.{◌≡◌, ℕ, ◌≤◌, ◌%◌, ◌/◌, List, [], ◌∷◌, ◌++◌, length, slice_index, refl, sym, ap, subst, ◌∙◌, arith, inl, inr}
-use Rattle.std.specs.Prelude.{◌⊎◌, Bool, true, false, not, Option, Some, None, Result, Ok, Err, IfOk}
+use Rattle.std.specs.Prelude.{◌⊎◌, ◌↔◌, IsTrue, Bool, true, false, not, Option, Some, None, Result, Ok, Err, IfOk}
 use Rattle.domain_header.specs.Headers.{header_id, header_high, header_low}
 use Rattle.domain_header.specs.Numbers.{number16}
 use Rattle.domain_header.specs.declared.flags.Header.{Header}
@@ -15,11 +15,12 @@ use Rattle.domain_message_builder.specs.Pushes.{PushesQuestion, with_header, rec
 use Rattle.domain_message_builder.specs.Reading.{IsMessageOf}
 use Rattle.domain_message_builder.specs.State.{State}
 use Rattle.domain_zone.specs.Headers.{HasAuthority, response_code}
-use Rattle.domain_zone_answer.specs.Sections.{Sections}
+use Rattle.domain_zone_answer.specs.Sections.{Sections, AreSections}
+use Rattle.domain_zone_laws.specs.Answers.{Outcome, Answers}
 use Rattle.domain_zone_laws.specs.Zone.{Zone, RRset}
 use Rattle.domain_zone_response.specs.Finishing.{FinishesWith, BeginsWith, RefusesBy, Answered}
 use Rattle.domain_zone_response.specs.Headers.{IsResponseHeader, RespondsTo}
-use Rattle.domain_zone_response.specs.Included.{Kept, LeftOut, holding}
+use Rattle.domain_zone_response.specs.Included.{cut_of, Kept, LeftOut, Puts, holding}
 use Rattle.domain_zone_response.specs.Included.Kept.{whole, no_answer, no_authority, no_glue}
 use Rattle.domain_zone_response.specs.Responses.{IsAnswered, AnswersQuery, only_question}
 
@@ -113,3 +114,37 @@ is_answered c z class limit aside capacity room query m q opt a b made id high l
 pub if_ok : {A E : Type 0} (r : Result A E) (P Q : A → Type 0) → IfOk r P → ((x : A) → P x → Q x) → IfOk r Q
 if_ok (Ok x) P Q p f = f x p
 if_ok (Err e) P Q p f = tt
+
+-- Sections, and why an RRset was left out, where less room is known.
+pub puts_less : (c : Bool) (k : ℕ) (cut : List (List ℕ)) (all : Sections) (less more : ℕ) (b : Bool) (a d : State) → less ≤ more → Puts c k cut all more b a d → Puts c k cut all less b a d
+puts_less c k cut all less more b a d le x = record {
+  answer = x.answer;
+  authority = x.authority;
+  additional = x.additional;
+  kept = kept_as _ _ _ _ _ _ _ _ (λ section s why. less_room c k x.answer x.authority x.additional less more a section s le why) x.kept;
+  fills = x.fills;
+}
+
+-- The question and the sections were pushed, and the header was set.
+pub answers_question : (c : Bool) (z : Zone) (class k : ℕ) (query h : Header) (q : QuestionFields) (ls : List (List ℕ)) (t code : ℕ) (outcome : Outcome) (all : Sections) (all_there aa tc : Bool) (less more : ℕ) (a b d e : State)
+    → ls ≡ q.name → t ≡ q.rtype → k ≡ class → code ≡ response_code outcome → tc ≡ not all_there → Answers z ls t outcome → AreSections z ls outcome all → PushesQuestion c q a b → less ≤ more
+    → Puts c k (cut_of outcome) all more all_there b d → IsTrue aa ↔ HasAuthority outcome → RespondsTo query aa tc code h → e ≡ with_header h d → Answered c z class query q less a e
+answers_question c z class k query h q ls t code outcome all all_there aa tc less more a b d e name rtype of_class of_code of_tc answers sections pushed le puts authority said is =
+    let header : e.header ≡ h = ap (λ (s : State). s.header) is in
+    record {
+      outcome = outcome;
+      answers = subst (λ l. Answers z l q.rtype outcome) name (subst (λ n. Answers z ls n outcome) rtype answers);
+      all = all;
+      are_all = subst (λ l. AreSections z l outcome all) name sections;
+      whole = all_there;
+      asked = b;
+      limit_is = pushed.settings.limit;
+      aside_is = pushed.settings.reserved;
+      holds = λ held. pushed.holds no_content held;
+      before = d;
+      puts = puts_less c class (cut_of outcome) all less more all_there b d le (subst (λ n. Puts c n (cut_of outcome) all more all_there b d) of_class puts);
+      aa = aa;
+      aa_is = authority;
+      header_is = subst (λ x. RespondsTo query aa (not all_there) (response_code outcome) x) (sym header) (subst (λ n. RespondsTo query aa (not all_there) n h) of_code (subst (λ x. RespondsTo query aa x code h) of_tc said));
+      new_is = is ∙ ap (λ x. with_header x d) (sym header);
+    }
