@@ -171,26 +171,28 @@ rrset_stops c section h k s f xs i x d a b less room lt is value same data_is en
 -- An RRset that is the first of its section was taken away again.
 pub stops_first : (c : Bool) (section : Section) (k : ℕ) (xs : List RRset) (s : RRset) (rs : List PushedRecord) (cap : ℕ) (a b d : State) → xs ≡ s ∷ [] → DoesNotFit c section k s cap a → Gains c section rs a b → Rewinds c section b d
     → Stops c section k xs cap a d
-stops_first c section k xs s rs cap a b d is why some back =
-    (record { kept = []; next = s; rest = []; split = is; at = a; fills = fills_nothing c section a; room = cap; enough = omega arith; why = why },
-    fills_none c section rs a b d some back)
+stops_first c section k xs s rs cap a b d is why some back = (
+  record { kept = []; next = s; rest = []; split = is; at = a; fills = fills_nothing c section a; room = cap; enough = omega arith; why = why },
+  fills_none c section rs a b d some back,
+)
 
 -- An RRset of a list was refused.
 pub sets_stop : {X : Type 0} (c : Bool) (section : Section) (k : ℕ) (f : X → RRset) (xs : List X) (i : ℕ) (x : X) (a b : State) (less room : ℕ) → i < length xs → x ≡ get_or xs i x → less ≤ room
     → Gains c section (all_records k (map f (take i xs))) a b → DoesNotFit c section k (f x) room b → (s : StopsAt c section k (map f xs) less a) × (length s.kept ≡ i)
-sets_stop c section k f xs i x a b less room lt is enough y why =
-    (record {
-      kept = map f (take i xs);
-      next = f x;
-      rest = map f (drop (suc i) xs);
-      split = parted_at f xs i x lt ∙ ap (λ v. map f (take i xs) ++ f v ∷ map f (drop (suc i) xs)) (sym is);
-      at = b;
-      fills = fills c section (all_records k (map f (take i xs))) a b y;
-      room = room;
-      enough = enough;
-      why = why;
-    },
-    length-map (take i xs) f ∙ length-take-le i xs (omega (arith, lt)))
+sets_stop c section k f xs i x a b less room lt is enough y why = (
+  record {
+    kept = map f (take i xs);
+    next = f x;
+    rest = map f (drop (suc i) xs);
+    split = parted_at f xs i x lt ∙ ap (λ v. map f (take i xs) ++ f v ∷ map f (drop (suc i) xs)) (sym is);
+    at = b;
+    fills = fills c section (all_records k (map f (take i xs))) a b y;
+    room = room;
+    enough = enough;
+    why = why;
+  },
+  length-map (take i xs) f ∙ length-take-le i xs (omega (arith, lt)),
+)
 
 -- Nothing was pushed, and then a section was filled.
 pub fills_after : (c : Bool) (section : Section) (rs : List PushedRecord) (a b d : State) → Fills c section [] a b → Fills c section rs b d → Fills c section rs a d
@@ -208,19 +210,20 @@ fills_first c section k f xs n a b d x y =
 pub stops_list : {X : Type 0} (c : Bool) (section : Section) (k : ℕ) (f : X → RRset) (xs : List X) (n m : ℕ) (a b : State) (less more : ℕ) → less ≤ more → Fills c section [] a b
     → (s : StopsAt c section k (map f (take n xs)) more b) × (length s.kept ≡ m) → (s : StopsAt c section k (map f xs) less a) × (length s.kept ≡ m)
 stops_list c section k f xs n m a b less more le x (s, len) =
-    let whole : map f xs ≡ map f (take n xs) ++ map f (drop n xs) = ap (map f) (sym (take-append-drop n xs)) ∙ map-append f (take n xs) (drop n xs) in
-    (record {
-      kept = s.kept;
-      next = s.next;
-      rest = s.rest ++ map f (drop n xs);
-      split = whole ∙ (ap (λ l. l ++ map f (drop n xs)) s.split ∙ append_assoc s.kept (s.next ∷ s.rest) (map f (drop n xs)));
-      at = s.at;
-      fills = fills_after c section (all_records k s.kept) a b s.at x s.fills;
-      room = s.room;
-      enough = omega (arith, le, s.enough);
-      why = s.why;
-    },
-    len)
+    let whole : map f xs ≡ map f (take n xs) ++ map f (drop n xs) = ap (map f) (sym (take-append-drop n xs)) ∙ map-append f (take n xs) (drop n xs) in (
+      record {
+        kept = s.kept;
+        next = s.next;
+        rest = s.rest ++ map f (drop n xs);
+        split = whole ∙ (ap (λ l. l ++ map f (drop n xs)) s.split ∙ append_assoc s.kept (s.next ∷ s.rest) (map f (drop n xs)));
+        at = s.at;
+        fills = fills_after c section (all_records k s.kept) a b s.at x s.fills;
+        room = s.room;
+        enough = omega (arith, le, s.enough);
+        why = s.why;
+      },
+      len,
+    )
 
 -- The one record of an RRset was refused.
 pub single_stops : (c : Bool) (section : Section) (k : ℕ) (s : RRset) (h : RecordHead) (d : List ℕ) (room : ℕ) (a : State) → s.rdata ≡ d ∷ [] → h ≡ head_of_set k s → CannotAdd c section (with_head h d) a room → DoesNotFit c section k s room a
@@ -238,26 +241,28 @@ single_stops c section k s h d room a is same why = record {
 
 -- What stops a list stops a longer one.
 pub stops_longer : (c : Bool) (section : Section) (k : ℕ) (xs zs us : List RRset) (cap : ℕ) (a b : State) → us ≡ xs ++ zs → Stops c section k xs cap a b → Stops c section k us cap a b
-stops_longer c section k xs zs us cap a b is (s, x) =
-    (record {
-      kept = s.kept;
-      next = s.next;
-      rest = s.rest ++ zs;
-      split = is ∙ (ap (λ l. l ++ zs) s.split ∙ append_assoc s.kept (s.next ∷ s.rest) zs);
-      at = s.at;
-      fills = s.fills;
-      room = s.room;
-      enough = s.enough;
-      why = s.why;
-    },
-    x)
+stops_longer c section k xs zs us cap a b is (s, x) = (
+  record {
+    kept = s.kept;
+    next = s.next;
+    rest = s.rest ++ zs;
+    split = is ∙ (ap (λ l. l ++ zs) s.split ∙ append_assoc s.kept (s.next ∷ s.rest) zs);
+    at = s.at;
+    fills = s.fills;
+    room = s.room;
+    enough = s.enough;
+    why = s.why;
+  },
+  x,
+)
 
 -- The last RRset of a section was refused.
 pub stops_last : (c : Bool) (section : Section) (k : ℕ) (ys us : List RRset) (s : RRset) (cap room : ℕ) (a b d : State) → us ≡ ys ++ s ∷ [] → Fills c section (all_records k ys) a b → cap ≤ room → DoesNotFit c section k s room b → d ≡ b
     → Stops c section k us cap a d
-stops_last c section k ys us s cap room a b d is x enough why same =
-    (record { kept = ys; next = s; rest = []; split = is; at = b; fills = x; room = room; enough = enough; why = why },
-    fills_to c section (all_records k ys) a b d same x)
+stops_last c section k ys us s cap room a b d is x enough why same = (
+  record { kept = ys; next = s; rest = []; split = is; at = b; fills = x; room = room; enough = enough; why = why },
+  fills_to c section (all_records k ys) a b d same x,
+)
 
 pub both_ok : {A E : Type 0} (r : Result A E) (P Q R : A → Type 0) → IfOk r P → IfOk r Q → ((x : A) → P x → Q x → R x) → IfOk r R
 both_ok (Ok x) P Q R p q f = f x p q

@@ -1,6 +1,6 @@
 -- A response, put together.
 use Rattle.std.proofs.Common.{◌≡◌, ℕ, ◌≤◌, ◌%◌, ◌/◌, List, [], ◌∷◌, ◌++◌, length, slice_index, refl, sym, ap, subst, ◌∙◌, arith, inl, inr}
-use Rattle.std.specs.Prelude.{◌⊎◌, ◌↔◌, IsTrue, Bool, true, false, not, Option, Some, None, Result, Ok, Err, IfOk}
+use Rattle.std.specs.Prelude.{◌⊎◌, ◌↔◌, IsTrue, Bool, true, false, not, Option, Some, None, Result, Ok, Err, IfOk, IfErr}
 use Rattle.domain_header.specs.Headers.{header_id, header_high, header_low}
 use Rattle.domain_header.specs.Numbers.{number16}
 use Rattle.domain_header.specs.declared.flags.Header.{Header}
@@ -22,7 +22,11 @@ use Rattle.domain_zone_response.specs.Finishing.{FinishesWith, BeginsWith, Refus
 use Rattle.domain_zone_response.specs.Headers.{IsResponseHeader, RespondsTo}
 use Rattle.domain_zone_response.specs.Included.{cut_of, Kept, LeftOut, Puts, holding}
 use Rattle.domain_zone_response.specs.Included.Kept.{whole, no_answer, no_authority, no_glue}
-use Rattle.domain_zone_response.specs.Responses.{IsAnswered, AnswersQuery, only_question}
+use Rattle.domain_zone_response.specs.Edns.{response_limit, response_opt, opt_len}
+use Rattle.domain_zone_response.specs.Queries.{Asked, TellsOpt, Asks}
+use Rattle.domain_zone_response.specs.Responses.{IsAnswered, AnswersQuery, Responds, only_question, upper_bits}
+use Rattle.domain_zone_response.specs.declared.edns.Server.{Server}
+use Rattle.domain_message.specs.OptRecords.{IsTheOpt, HasOptFault}
 
 -- The OPT record was pushed, and the message finished.
 pub finishes_opt : (c : Bool) (o : Opt) (a b : State) (m : List ℕ) → PushesOpt c o a b → ((it : Content) → Holds c b it → IsMessageOf b.header it m) → length m ≤ b.limit → FinishesWith c (Some o) a m
@@ -148,3 +152,45 @@ answers_question c z class k query h q ls t code outcome all all_there aa tc les
       header_is = subst (λ x. RespondsTo query aa (not all_there) (response_code outcome) x) (sym header) (subst (λ n. RespondsTo query aa (not all_there) n h) of_code (subst (λ x. RespondsTo query aa x code h) of_tc said));
       new_is = is ∙ ap (λ x. with_header x d) (sym header);
     }
+
+pub tells_opt : (m : List ℕ) (asked : Asked) → IfOk asked (IsTheOpt m) → IfErr asked (HasOptFault m) → TellsOpt m asked
+tells_opt m (Ok found) ok err = ok
+tells_opt m (Err e) ok err = err
+
+-- The response to a question that is answered.
+pub responds_answered : (c : Bool) (z : Zone) (class k : ℕ) (server : Server) (capacity room limit upper : ℕ) (n m made : List ℕ) (query : Header) (asked : Asked) (told : Result QuestionFields ℕ) (q : QuestionFields) (opt : Option Opt) (a b : State)
+    → n ≡ m → k ≡ class → TellsOpt n asked → Asks n k asked told → told ≡ Ok q → opt ≡ response_opt server.payload_size asked upper → upper ≡ upper_bits told → limit ≡ response_limit server asked
+    → header_id query ≡ number16 n 0 → header_high query ≡ slice_index n 2 → header_low query ≡ slice_index n 3 → BeginsWith c limit (opt_len opt) a → capacity ≤ room → Answered c z class query q room a b → FinishesWith c opt b made
+    → Responds c z class server capacity m made
+responds_answered c z class k server capacity room limit upper n m made query asked told q opt a b same of_class tells said is of_opt of_upper of_limit id high low begun le answered finished =
+    let opt_is : opt ≡ response_opt server.payload_size asked 0 = of_opt ∙ ap (λ u. response_opt server.payload_size asked u) (of_upper ∙ ap upper_bits is) in
+    let x = is_answered c z class limit (opt_len opt) capacity room query n q opt a b made id high low begun le answered finished in
+    subst (λ l. Responds c z class server capacity l made) same (record {
+      asked = asked;
+      tells = tells;
+      question = Ok q;
+      asks = subst (Asks n class asked) is (subst (λ j. Asks n j asked told) of_class said);
+      header = b.header;
+      it = x.0;
+      has = subst (λ l. IsAnswered c z class l (opt_len (response_opt server.payload_size asked 0)) capacity n q b.header x.0) of_limit (subst (λ o. IsAnswered c z class limit (opt_len o) capacity n q b.header x.0) opt_is x.1);
+      reads = subst (λ o. IsMessageOf b.header (with_opt o x.0) made) opt_is x.2;
+      within = omega (arith, x.3, of_limit);
+    })
+
+-- The response to a query that is refused.
+pub responds_refused : (c : Bool) (z : Zone) (class k : ℕ) (server : Server) (capacity limit upper code : ℕ) (n m made : List ℕ) (asked : Asked) (told : Result QuestionFields ℕ) (opt : Option Opt) (a : State)
+    → n ≡ m → k ≡ class → TellsOpt n asked → Asks n k asked told → told ≡ Err code → opt ≡ response_opt server.payload_size asked upper → upper ≡ upper_bits told → limit ≡ response_limit server asked
+    → BeginsWith c limit (opt_len opt) a → RefusesBy c n code opt a made → Responds c z class server capacity m made
+responds_refused c z class k server capacity limit upper code n m made asked told opt a same of_class tells said is of_opt of_upper of_limit begun x =
+    let opt_is : opt ≡ response_opt server.payload_size asked (code / 16) = of_opt ∙ ap (λ u. response_opt server.payload_size asked u) (of_upper ∙ ap upper_bits is) in
+    subst (λ l. Responds c z class server capacity l made) same (record {
+      asked = asked;
+      tells = tells;
+      question = Err code;
+      asks = subst (Asks n class asked) is (subst (λ j. Asks n j asked told) of_class said);
+      header = x.header;
+      it = x.it;
+      has = x.refused;
+      reads = subst (λ o. IsMessageOf x.header (with_opt o x.it) made) opt_is (x.reads begun.holds);
+      within = omega (arith, x.within, begun.limit_is, of_limit);
+    })

@@ -11,5 +11,5 @@ pub returns-in-Some-clause-stops : goal.returns-in-Some-clause-stops
 returns-in-Some-clause-stops g c =
     both_ok c.push_cname.result _ _ _ c.push_cname.ensures.refused c.push_cname.ensures.why
     (λ done same why refused. stops_last _ _ _ (section_list c.answer-first.result) _ _ _ _ _ _ _
-        (sym c.answer-first.ensures ∙ ap (λ l. section_list c.answer-first.result ++ l) (sym c.in-Some.ensures))
-        (c.if-not-push_first.ensures.pushed refl) c.push_first.ensures.capacity (why refused) (same refused))
+    (sym c.answer-first.ensures ∙ ap (λ l. section_list c.answer-first.result ++ l) (sym c.in-Some.ensures))
+    (c.if-not-push_first.ensures.pushed refl) c.push_first.ensures.capacity (why refused) (same refused))

@@ -18,7 +18,7 @@ returns-then-not-branch-clause-puts g c =
 pub returns-then-not-push_first-clause-puts : goal.returns-then-not-push_first-clause-puts
 returns-then-not-push_first-clause-puts g c =
     let s = subst (λ l. Stops g.Target.Composer.compresses Authority (class_number c.args.class) l (target_room c.push_answers.new.message) (state c.push_answers.new.message) (state c.push_first.new.message))
-        c.authority.ensures (c.push_first.ensures.stops c.if-not-push_first.true) in
+    c.authority.ensures (c.push_first.ensures.stops c.if-not-push_first.true) in
     left_authority _ _ _ (response_sections c.args.response.now) _ _ _ _ _ c.push_answers.ensures.capacity (c.in_ok-push_answers.ensures.pushed c.if-not-branch.false) s.0 s.1
 
 pub returns-then-count-glue-clause-puts : goal.returns-then-count-glue-clause-puts
@@ -26,7 +26,7 @@ returns-then-count-glue-clause-puts g c =
     let glue = c.in_ok-glue.ensures in
     let is = ap set_views c.as_slice.ensures.value ∙ glue.sets in
     let authority = subst (λ l. Fills g.Target.Composer.compresses Authority (all_records (class_number c.args.class) l) (state c.push_answers.new.message) (state c.push_first.new.message))
-        c.authority.ensures (c.push_first.ensures.pushed c.if-not-push_first.false) in
+    c.authority.ensures (c.push_first.ensures.pushed c.if-not-push_first.false) in
     let len = ap length is ∙ length-append glue.ys glue.zs in
     let s = c.push_most-count.ensures.stops (omega (arith, len, length-map c.as_slice.result.now section_view, glue.required, c.if-count-glue.true)) in
     left_glue _ _ _ (response_sections c.args.response.now) _ _ _ _ _ _ _ (set_views c.as_slice.result.now) glue.ys glue.zs (omega (arith, c.push_answers.ensures.capacity, c.push_first.ensures.capacity))
@@ -37,6 +37,6 @@ returns-clause-puts g c =
     let glue = c.in_ok-glue.ensures in
     let is = ap set_views c.as_slice.ensures.value ∙ glue.sets in
     let authority = subst (λ l. Fills g.Target.Composer.compresses Authority (all_records (class_number c.args.class) l) (state c.push_answers.new.message) (state c.push_first.new.message))
-        c.authority.ensures (c.push_first.ensures.pushed c.if-not-push_first.false) in
+    c.authority.ensures (c.push_first.ensures.pushed c.if-not-push_first.false) in
     all_required _ _ _ (response_sections c.args.response.now) _ _ _ _ _ _ (set_views c.as_slice.result.now) glue.ys glue.zs
     (c.in_ok-push_answers.ensures.pushed c.if-not-branch.false) authority c.push_most-count.ensures.fills glue.parts is (omega (arith, glue.required, c.if-count-glue.false))
