@@ -2,14 +2,13 @@
 use Rattle.std.proofs.Common.{◌≡◌, ℕ, ◌<◌, ◌≤◌, List, [], ◌∷◌, ◌++◌, take, length, refl, sym, ap, subst, ◌∙◌, arith}
 use Rattle.std.proofs.Math.Seq.{take-append_seam}
 use Rattle.std.specs.Prelude.{Bool, true, false}
-use Rattle.domain_message.specs.declared.section.Section.{Section}
 use Rattle.domain_message.specs.declared.section.Section.TheVariants.{Answer, Authority, Additional}
 use Rattle.domain_message_builder.specs.Contents.{Content, Holds}
-use Rattle.domain_message_builder.specs.Pushes.{SameSettings, emptied}
+use Rattle.domain_message_builder.specs.Pushes.{emptied}
 use Rattle.domain_message_builder.specs.State.{State}
 use Rattle.domain_zone_answer.specs.Sections.{Sections}
 use Rattle.domain_zone_laws.specs.Zone.{RRset}
-use Rattle.domain_zone_response.specs.Included.{Parts, Kept, FillsAll, LeftOut, Puts, holding}
+use Rattle.domain_zone_response.specs.Included.{Parts, FillsAll, Puts, holding}
 use Rattle.domain_zone_response.specs.Included.Kept.{whole, no_answer, no_authority, no_glue}
 use Rattle.domain_zone_response.specs.Pushing.{all_records, Fills, StopsAt}
 use Rattle.domain_zone_response.proofs.Growing.{settings_stay, fills_nothing}

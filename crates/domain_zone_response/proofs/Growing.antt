@@ -11,8 +11,8 @@ use Rattle.domain_message_builder.specs.State.{State}
 use Rattle.domain_message_builder.specs.declared.error.PushError.{PushError}
 use Rattle.domain_message_builder.specs.declared.error.PushError.TheVariants.{Append, Long, Count, Limit, Order}
 use Rattle.domain_zone_laws.specs.Zone.{RRset}
-use Rattle.domain_zone_response.specs.Pushing.{record_of, records_of, all_records, with_records, Gains, Fills, CannotAdd, DoesNotFit, StopsAt, Stops}
-use Rattle.domain_zone_response.specs.Pushing.CannotAdd.{no_room, over_limit, too_long, over_length, too_many, begun}
+use Rattle.domain_zone_response.specs.Pushing.{records_of, all_records, with_records, Gains, Fills, CannotAdd, DoesNotFit, StopsAt, Stops}
+use Rattle.domain_zone_response.specs.Pushing.CannotAdd.{no_room, over_limit, too_long, too_many, begun}
 
 -- nothing is added
 pub none_added : (section : Section) (it : Content) → with_records section [] it ≡ it

@@ -1,5 +1,5 @@
 -- Addresses that are required, and others.
-use Rattle.std.proofs.Common.{◌≡◌, ℕ, List, [], ◌∷◌, ◌++◌, refl, sym, subst, ◌∙◌, append_assoc, append-nil}
+use Rattle.std.proofs.Common.{◌≡◌, ℕ, List, [], ◌∷◌, ◌++◌, sym, subst, append_assoc, append-nil}
 use Rattle.std.proofs.lemmas.List.{map-append}
 use Rattle.domain_list.specs.Ends.{EndsWith}
 use Rattle.domain_zone_answer.specs.Views.{section_view}

@@ -1,5 +1,5 @@
 -- Sizes and OPT records of responses (RFC 6891).
-use Rattle.std.specs.Prelude.{◌≡◌, ℕ, ◌==◌, min, Bool, false, List, [], Option, Some, None, Result, Ok, Err}
+use Rattle.std.specs.Prelude.{ℕ, ◌==◌, min, Bool, false, [], Option, Some, None, Ok, Err}
 use Rattle.domain_message.specs.OptRecords.{taken_size, opt_class, opt_ttl, dnssec_ok_bit}
 use Rattle.domain_message.specs.declared.edns.OptError.TheVariants.{Parse, Another, Owner}
 use Rattle.domain_message_builder.specs.Opt.{Opt}

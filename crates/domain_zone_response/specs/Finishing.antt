@@ -1,5 +1,5 @@
 -- What the parts of a response do to a builder. `g` to `l` are as in `Builders` of `domain_message_builder`.
-use Rattle.std.specs.Prelude.{◌≡◌, ℕ, ◌≤◌, ◌%◌, ◌↔◌, Bool, not, IsTrue, List, [], length, Option}
+use Rattle.std.specs.Prelude.{◌≡◌, ℕ, ◌≤◌, ◌↔◌, Bool, not, IsTrue, List, length, Option}
 use Rattle.domain_header.specs.declared.flags.Header.{Header}
 use Rattle.domain_message.specs.Entries.{QuestionFields}
 use Rattle.domain_message_builder.specs.Builders.{state, target_room}
@@ -12,7 +12,7 @@ use Rattle.domain_message_builder.specs.declared.builder.MessageBuilder.{Message
 use Rattle.domain_zone.specs.Headers.{HasAuthority, response_code}
 use Rattle.domain_zone_answer.specs.Sections.{Sections, AreSections}
 use Rattle.domain_zone_laws.specs.Answers.{Outcome, Answers}
-use Rattle.domain_zone_laws.specs.Zone.{Zone, RRset}
+use Rattle.domain_zone_laws.specs.Zone.{Zone}
 use Rattle.domain_zone_response.specs.Headers.{RespondsTo}
 use Rattle.domain_zone_response.specs.Included.{cut_of, Puts}
 use Rattle.domain_zone_response.specs.Responses.{IsRefused, only_question}

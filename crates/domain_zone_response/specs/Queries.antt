@@ -1,10 +1,10 @@
 -- What a query asks.
-use Rattle.std.specs.Prelude.{◌≡◌, ℕ, ◌<◌, ◌/◌, ◌%◌, ◌⊎◌, ◌&&◌, ◌||◌, ◌==◌, nat_lt, if◌then◌else◌, List, [], ◌∷◌, length, slice_index, Option, Some, None, Result, Ok, Err}
+use Rattle.std.specs.Prelude.{◌≡◌, ℕ, ◌<◌, ◌⊎◌, ◌&&◌, ◌||◌, ◌==◌, nat_lt, if◌then◌else◌, List, length, slice_index, Option, Some, None, Result, Ok, Err}
 use Rattle.octseq.specs.declared.octets.Octets.{Ghosts}
 use Rattle.domain_wire.specs.declared.error.ParseError.{ParseError}
 use Rattle.domain_header.specs.Bits.{bit, bits}
 use Rattle.domain_header.specs.Numbers.{number16}
-use Rattle.domain_message.specs.Entries.{QuestionFields, QuestionAt, NoQuestion}
+use Rattle.domain_message.specs.Entries.{QuestionFields, QuestionAt}
 use Rattle.domain_message.specs.Models.{question_fields}
 use Rattle.domain_message.specs.OptRecords.{IsTheOpt, HasOptFault, opt_ttl, edns_version}
 use Rattle.domain_message.specs.Sole.{NoSoleQuestion}

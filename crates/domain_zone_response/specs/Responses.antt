@@ -1,11 +1,10 @@
 -- Which message answers a query.
-use Rattle.std.specs.Prelude.{◌≡◌, ℕ, ◌≤◌, ◌⊎◌, ◌<◌, ◌/◌, ◌%◌, ◌↔◌, Bool, not, false, IsTrue, List, [], ◌∷◌, length, slice_index, Option, Result, Ok, Err}
+use Rattle.std.specs.Prelude.{◌≡◌, ℕ, ◌≤◌, ◌⊎◌, ◌/◌, ◌%◌, ◌↔◌, Bool, not, false, IsTrue, List, [], ◌∷◌, length, slice_index, Result, Ok, Err}
 use Rattle.domain_header.specs.Numbers.{number16}
 use Rattle.domain_header.specs.declared.flags.Header.{Header}
 use Rattle.domain_message.specs.Entries.{QuestionFields}
-use Rattle.domain_message.specs.declared.section.Section.{Section}
 use Rattle.domain_message_builder.specs.Answers.{BeginsWithQuestion, HasNoQuestion}
-use Rattle.domain_message_builder.specs.Contents.{Content, Holds, no_content}
+use Rattle.domain_message_builder.specs.Contents.{Content, Holds}
 use Rattle.domain_message_builder.specs.Cuts.{with_opt}
 use Rattle.domain_message_builder.specs.Reading.{IsMessageOf}
 use Rattle.domain_message_builder.specs.State.{State}

@@ -12,7 +12,7 @@ use Rattle.domain_zone_answer.specs.Views.{section_view}
 use Rattle.domain_zone_answer.specs.declared.section.SectionRrset.{SectionRrset}
 use Rattle.domain_zone_laws.specs.Zone.{RRset}
 use Rattle.domain_zone_response.specs.Included.{Parts, Puts}
-use Rattle.domain_zone_response.specs.Pushing.{all_records, Gains, Fills, CannotAdd, DoesNotFit, StopsAt, Stops}
+use Rattle.domain_zone_response.specs.Pushing.{Gains, Fills, CannotAdd, DoesNotFit, StopsAt, Stops}
 use Rattle.domain_zone_response.specs.declared.glue.Glue.{Glue}
 use Rattle.domain_zone_response.specs.declared.rrset.Head.{Head}
 

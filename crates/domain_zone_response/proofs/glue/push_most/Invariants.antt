@@ -1,4 +1,4 @@
-use Rattle.std.proofs.Common.{◌≡◌, ◌≤◌, ◌<◌, length, [], ◌+◌}
+use Rattle.std.proofs.Common.{◌≤◌, ◌<◌, length, []}
 use Rattle.domain_header.specs.Values.{class_number}
 use Rattle.domain_message.specs.declared.section.Section.TheVariants.{Additional}
 use Rattle.domain_message_builder.specs.Builders.{target_room}

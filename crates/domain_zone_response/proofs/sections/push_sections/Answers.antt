@@ -3,8 +3,7 @@ use Rattle.std.proofs.lemmas.List.{length-map}
 use Rattle.domain_header.specs.Values.{class_number}
 use Rattle.domain_message.specs.declared.section.Section.TheVariants.{Authority}
 use Rattle.domain_message_builder.specs.Builders.{state, target_room}
-use Rattle.domain_zone_answer.specs.Views.{section_view, response_outcome, response_sections}
-use Rattle.domain_zone_response.specs.Included.{cut_of}
+use Rattle.domain_zone_answer.specs.Views.{section_view, response_sections}
 use Rattle.domain_zone_response.specs.Pushing.{all_records, Fills, Stops}
 use Rattle.domain_zone_response.specs.Views.{set_views}
 use Rattle.domain_zone_response.proofs.Filling.{left_answer, left_authority, left_glue, all_required}
