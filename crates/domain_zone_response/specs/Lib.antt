@@ -5,4 +5,5 @@ pub mod Included
 pub mod Pushing
 pub mod Queries
 pub mod Responses
+pub mod Rooms
 pub mod Views

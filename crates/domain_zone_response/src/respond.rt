@@ -1,5 +1,5 @@
 //! The response to a query.
-ghost use Rattle.std.specs.Prelude.{◌≡◌, ◌≤◌, ◌↔◌, IfOk, IfSome, IsNone};
+ghost use Rattle.std.specs.Prelude.{◌≡◌, ◌≤◌, ◌↔◌, IfOk, IfErr, IfSome, IsNone};
 ghost use Rattle.domain_header.specs.Values.{class_number};
 ghost use Rattle.domain_message.specs.Messages.{message_octets};
 ghost use Rattle.domain_message.specs.Models.{question_fields};
@@ -9,6 +9,9 @@ ghost use Rattle.domain_zone.specs.Kept.{zone_view, zone_class};
 ghost use Rattle.domain_zone_response.specs.Edns.{opt_len};
 ghost use Rattle.domain_zone_response.specs.Queries.{IsNoQuery, asked_fields};
 ghost use Rattle.domain_zone_response.specs.Responses.{Responds, upper_bits};
+ghost use Rattle.domain_zone_response.specs.Rooms.{LacksRoom, CannotBegin, OptDoesNotFit};
+ghost use Rattle.domain_zone_response.specs.Rooms.{CannotBeAsked, RefusalDoesNotFit};
+ghost use Rattle.domain_zone_response.specs.declared.error.ResponseError.TheVariants.{NoRoom};
 ghost use Rattle.domain_zone_response.specs.Finishing.{Finishes, BeginsMessage, Refuses, AnswersFrom};
 
 use crate::edns::{Server, limit_of, opt_for};
@@ -32,7 +35,8 @@ fn finish<Target: Composer + Drop>(
     message: MessageBuilder<Target>,
     opt: Option<OptBuilder<&'static [u8]>>,
 ) -> Result<Target, ResponseError>
-    ensures { IfOk result (λ made. Finishes (opt_given opt.entry) message (Target.octets made)) }
+    ensures ok { IfOk result (λ made. Finishes (opt_given opt.entry) message (Target.octets made)) }
+    ensures why { IfErr result (λ _. OptDoesNotFit (opt_given opt.entry) message) }
 {
     let mut message = message;
     let Some(opt) = &opt else {
@@ -52,6 +56,8 @@ fn begin<Target: Composer + Drop>(
 ) -> Result<MessageBuilder<Target>, ResponseError>
     ensures begun { IfOk result (λ it. BeginsMessage limit (opt_len (opt_given opt.now)) it) }
     ensures capacity { IfOk result (λ it. Target.capacity target ≤ target_room it) }
+    ensures why { IfErr result
+        (λ _. CannotBegin Target.Composer target limit (opt_len (opt_given opt.now))) }
 {
     let Ok(mut message) = MessageBuilder::with_limit(target, limit) else {
         return Err(ResponseError::NoRoom);
@@ -84,8 +90,10 @@ fn refuse<Target: Composer + Drop>(
     message: MessageBuilder<Target>,
     opt: Option<OptBuilder<&'static [u8]>>,
 ) -> Result<Target, ResponseError>
-    ensures { IfOk result (λ made. Refuses (message_octets query.now) code (opt_given opt.entry)
+    ensures ok { IfOk result (λ made. Refuses (message_octets query.now) code (opt_given opt.entry)
         message (Target.octets made)) }
+    ensures why { IfErr result
+        (λ _. RefusalDoesNotFit (message_octets query.now) (opt_given opt.entry) message) }
 {
     let mut message = message;
     let verdict = Verdict {
@@ -114,6 +122,9 @@ fn answer_from<Target: Composer + Drop>(
     ensures answers { IfOk result (λ _. AnswersFrom (zone_view zone.now)
         (class_number (zone_class zone.now)) query (question_fields question.now)
         message.old message.new) }
+    ensures why { IfErr result (λ e. e ≡ NoRoom →
+        CannotBeAsked (question_fields question.now) message.old) }
+    ensures capacity { target_room message.old ≤ target_room message.new }
 {
     let Ok(qname) = question.qname().to_vec(alloc) else {
         return Err(ResponseError::Memory);
@@ -148,6 +159,8 @@ pub fn respond_to<Target: Composer + Drop>(
     ensures responds { IfOk result (λ made. IfSome made (λ it. Responds Target.compresses
         (zone_view zone.now) (class_number (zone_class zone.now)) server
         (Target.capacity target) query.now (Target.octets it))) }
+    ensures why { IfErr result (λ e. e ≡ NoRoom → LacksRoom Target.compresses server
+        (Target.capacity target) (Target.octets target) query.now) }
 {
     let Ok(query) = Message::from_octets(query) else {
         return Ok(None);
