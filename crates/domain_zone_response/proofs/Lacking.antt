@@ -17,8 +17,12 @@ use Rattle.domain_message_builder.specs.declared.error.PushError.{PushError}
 use Rattle.domain_message_builder.specs.declared.error.PushError.TheVariants.{Append, Long, Count, Limit, Order}
 use Rattle.domain_message_builder.specs.declared.error.StartError.{StartError}
 use Rattle.domain_message_builder.specs.declared.error.StartError.TheVariants as start
+use Rattle.domain_zone_laws.specs.Zone.{Zone}
 use Rattle.domain_zone_response.specs.Edns.{response_limit, limit_over, response_opt, opt_len}
-use Rattle.domain_zone_response.specs.Queries.{Asked, TellsOpt}
+use Rattle.domain_zone_response.specs.Finishing.{BeginsWith, Answered}
+use Rattle.domain_zone_response.specs.Included.{holding}
+use Rattle.domain_zone_response.specs.Queries.{Asked, TellsOpt, Asks}
+use Rattle.domain_zone_response.specs.Queries.Asks.{asks}
 use Rattle.domain_zone_response.specs.Responses.{only_question}
 use Rattle.domain_zone_response.specs.Rooms.{LacksEntry, LacksRoom, LacksEntryOf}
 use Rattle.domain_zone_response.specs.Rooms.LacksEntry.{no_question, no_opt}
@@ -62,7 +66,7 @@ short_opt : (o : Option Opt) → opt_len o ≤ 11
 short_opt None = omega arith
 short_opt (Some o) = omega arith
 
-options_of : Option Opt → List ℕ
+abbrev options_of : Option Opt → List ℕ
 options_of None = []
 options_of (Some o) = o.options
 
@@ -112,3 +116,24 @@ lacks_after c m given less mid more h q a b d is same pushed le (o, some, why) =
 pub if_err : {A E : Type 0} (r : Result A E) (P Q : E → Type 0) → IfErr r P → ((x : E) → P x → Q x) → IfErr r Q
 if_err (Ok x) P Q p f = tt
 if_err (Err e) P Q p f = f e p
+
+has_question : (m : List ℕ) (class : ℕ) (asked : Asked) (q : QuestionFields) → Asks m class asked (Ok q) → BeginsWithQuestion m q
+has_question m class asked _ (asks q none has same type) = record { counted = omega (arith, has.0); end = has.1; at = has.2 }
+
+-- The question of a query that is answered has no room.
+pub lacks_answer : (c : Bool) (server : Server) (asked : Asked) (told : Result QuestionFields ℕ) (q : QuestionFields) (k capacity room limit aside : ℕ) (octets n m : List ℕ) (a : State) → n ≡ m → TellsOpt n asked → Asks n k asked told → told ≡ Ok q
+    → limit ≡ response_limit server asked → BeginsWith c limit aside a → capacity ≤ room → CannotAsk c q a room → LacksRoom c server capacity octets m
+lacks_answer c server asked told q k capacity room limit aside octets n m a same tells said is of_limit begun le why =
+    let first : BeginsWithQuestion n q = has_question n k asked q (subst (Asks n k asked) is said) in
+    subst (λ l. LacksRoom c server capacity octets l) same (no_entry asked tells (no_question q a room first begun.holds (begun.limit_is ∙ of_limit) le why))
+
+-- The OPT record after an answer has no room.
+pub lacks_opt : (c : Bool) (z : Zone) (class : ℕ) (query : Header) (server : Server) (asked : Asked) (q : QuestionFields) (given : Option Opt) (upper capacity room more limit aside : ℕ) (octets n m : List ℕ) (a b : State) → n ≡ m → TellsOpt n asked
+    → given ≡ response_opt server.payload_size asked upper → limit ≡ response_limit server asked → BeginsWith c limit aside a → capacity ≤ room → Answered c z class query q room a b → room ≤ more → (o : Opt) × (given ≡ Some o) × CannotAddOpt o more b
+    → LacksRoom c server capacity octets m
+lacks_opt c z class query server asked q given upper capacity room more limit aside octets n m a b same tells of_opt of_limit begun le x grows (o, some, why) =
+    let it : Content = holding class (only_question q) x.puts.answer x.puts.authority x.puts.additional in
+    let before : Holds c x.before it = x.puts.fills.holds (only_question q) refl (x.holds begun.holds) in
+    let now : Holds c b it = subst (λ s. Holds c s it) (sym x.new_is) before in
+    let limit_is : b.limit ≡ response_limit server asked = ap (λ (s : State). s.limit) x.new_is ∙ (x.puts.fills.settings.limit ∙ (x.limit_is ∙ (begun.limit_is ∙ of_limit))) in
+    subst (λ l. LacksRoom c server capacity octets l) same (no_entry asked tells (no_opt o it b more (bare_of server.payload_size asked upper given o of_opt some) now limit_is (omega (arith, le, grows)) why))

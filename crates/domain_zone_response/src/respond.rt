@@ -171,12 +171,23 @@ pub fn respond_to<Target: Composer + Drop>(
     let asked = opt_of(&query);
     let question = question_of(&query, &asked, zone.class());
     let opt = opt_for(server, &asked, upper_of(&question));
-    let mut message = begin(target, limit_of(server, &asked), &opt)?;
+    let mut message = match begin(target, limit_of(server, &asked), &opt) {
+        Ok(message) => message,
+        Err(e) => return Err(e),
+    };
     match &question {
         Ok(question) => {
-            answer_from(alloc, zone, query.header(), question, &mut message)?;
-            Ok(Some(finish(message, opt)?))
+            if let Err(e) = answer_from(alloc, zone, query.header(), question, &mut message) {
+                return Err(e);
+            }
+            match finish(message, opt) {
+                Ok(made) => Ok(Some(made)),
+                Err(e) => Err(e),
+            }
         }
-        Err(code) => Ok(Some(refuse(&query, *code, message, opt)?)),
+        Err(code) => match refuse(&query, *code, message, opt) {
+            Ok(made) => Ok(Some(made)),
+            Err(e) => Err(e),
+        },
     }
 }

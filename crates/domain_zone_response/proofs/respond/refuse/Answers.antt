@@ -36,11 +36,11 @@ returns-in_default-clause-why g c =
 pub returns-in-Err-clause-why : goal.returns-in-Err-clause-why
 returns-in-Err-clause-why g c =
     let first = c.in-Some.ensures.some in
-    lacks_question _ _ _ _ _ _ (question_fields c.in-Some.question) _ _ c.set_header.ensures.header (ap g.Target.Octets.capacity c.set_header.ensures.target)
-    (record { counted = first.0; end = first.1.0; at = first.1.1 }) (cannot_ask _ _ _ _ c.in-Err._refused c.in-Err.ensures.why)
+    lacks_question _ _ _ _ _ _ (question_fields c.in-Some.question) (state c.args.message) (state c.set_header.new.self) c.set_header.ensures.header (ap g.Target.Octets.capacity c.set_header.ensures.target)
+    (record { counted = first.0; end = first.1.0; at = first.1.1 }) (cannot_ask _ (question_fields c.in-Some.question) (state c.set_header.new.self) _ c.in-Err._refused c.in-Err.ensures.why)
 
 pub returns-clause-why : goal.returns-clause-why
 returns-clause-why g c =
     if_err c.finish-2.result _ _ c.finish-2.ensures.why
     (λ e why. lacks_after _ _ _ _ _ _ _ (question_fields c.in-Some.question) _ _ _ c.set_header.ensures.header (ap g.Target.Octets.capacity c.set_header.ensures.target)
-        c.in_default-push_question.ensures.ok c.push_question.ensures.capacity why)
+    c.in_default-push_question.ensures.ok c.push_question.ensures.capacity why)
