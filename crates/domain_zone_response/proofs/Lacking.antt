@@ -7,7 +7,7 @@ use Rattle.domain_message.specs.Entries.{QuestionFields}
 use Rattle.domain_message.specs.OptRecords.{taken_size}
 use Rattle.domain_message.specs.declared.edns.OptError.TheVariants.{Parse, Another, Owner}
 use Rattle.domain_message_builder.specs.Answers.{BeginsWithQuestion, CannotAsk}
-use Rattle.domain_message_builder.specs.Contents.{Content, Holds, no_content, blank_header}
+use Rattle.domain_message_builder.specs.Contents.{Content, Holds, no_content}
 use Rattle.domain_message_builder.specs.Cuts.{CannotAddOpt}
 use Rattle.domain_message_builder.specs.Opt.{Opt}
 use Rattle.domain_message_builder.specs.Pushes.{IsBegun, PushesQuestion, with_header}
@@ -24,7 +24,7 @@ use Rattle.domain_zone_response.specs.Included.{holding}
 use Rattle.domain_zone_response.specs.Queries.{Asked, TellsOpt, Asks}
 use Rattle.domain_zone_response.specs.Queries.Asks.{asks}
 use Rattle.domain_zone_response.specs.Responses.{only_question}
-use Rattle.domain_zone_response.specs.Rooms.{LacksEntry, LacksRoom, LacksEntryOf}
+use Rattle.domain_zone_response.specs.Rooms.{LacksRoom, LacksEntryOf}
 use Rattle.domain_zone_response.specs.Rooms.LacksEntry.{no_question, no_opt}
 use Rattle.domain_zone_response.specs.Rooms.LacksRoom.{not_empty, no_header, no_entry}
 use Rattle.domain_zone_response.specs.Rooms.LacksEntryOf.{question_of, opt_of}

@@ -1,4 +1,4 @@
-use Rattle.std.proofs.Common.{refl, ap}
+use Rattle.std.proofs.Common.{ap}
 use Rattle.domain_header.specs.Values.{class_number}
 use Rattle.domain_message.specs.Messages.{message_octets}
 use Rattle.domain_message.specs.Models.{question_fields}
