@@ -1,4 +1,5 @@
 //! The message that answers a query, in hexadecimal digits.
+ghost use Rattle.std.specs.Prelude.{◌<◌, IfSome};
 
 use domain_compress::CompressComposer;
 use domain_label::hex::hex_character;
@@ -10,7 +11,9 @@ use std::alloc::{AllocError, Global};
 const PAYLOAD_SIZE: u16 = 1232;
 
 /// Returns the value of a hexadecimal digit.
-fn digit_of(octet: u8) -> Option<u8> {
+fn digit_of(octet: u8) -> Option<u8>
+    ensures { IfSome result (λ value. value < 16) }
+{
     match octet {
         b'0'..=b'9' => Some(octet - b'0'),
         b'a'..=b'f' => Some(octet - b'a' + 10),
@@ -22,23 +25,19 @@ fn digit_of(octet: u8) -> Option<u8> {
 /// Returns the octets that digits are, two for each octet. `None` within where they aren't such digits.
 pub fn octets_of(alloc: Global, digits: &str) -> Result<Option<Vec<u8>>, AllocError> {
     let mut octets = Vec::new(alloc);
-    let mut high = None;
-    for digit in digits.as_bytes() {
-        let Some(value) = digit_of(*digit) else {
+    for pair in digits.as_bytes().chunks(2) {
+        let [high, low] = pair else {
             return Ok(None);
         };
-        match high {
-            Some(first) => {
-                octets.push(value + first)?;
-                high = None;
-            }
-            None => high = Some(value * 16),
-        }
+        let Some(high) = digit_of(*high) else {
+            return Ok(None);
+        };
+        let Some(low) = digit_of(*low) else {
+            return Ok(None);
+        };
+        octets.push(high * 16 + low)?;
     }
-    match high {
-        Some(_) => Ok(None),
-        None => Ok(Some(octets)),
-    }
+    Ok(Some(octets))
 }
 
 /// Appends each octet in two digits.
