@@ -16,6 +16,7 @@ limit_over Datagram size (Ok None) = 512
 limit_over Datagram size (Ok (Some opt)) = min (taken_size (opt_class opt)) (taken_size size)
 limit_over Datagram size (Err e) = 512
 
+-- The limit of a response by this server.
 abbrev pub response_limit : Server → Asked → ℕ
 response_limit server asked = limit_over server.transport server.payload_size asked
 
