@@ -49,8 +49,8 @@ fn put_digits(octets: &[u8], out: &mut Vec<u8>) -> Result<(), AllocError> {
     Ok(())
 }
 
-/// Appends the digits of the message that answers a query from a zone, and the end of the line. The line is empty where
-/// no message is sent.
+/// Appends the digits of the message that answers a query from a zone, and the end of the line. The line is empty
+/// where no message is sent.
 pub fn put_answer(
     alloc: Global,
     zone: &Zone,

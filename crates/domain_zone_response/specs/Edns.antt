@@ -8,8 +8,8 @@ use Rattle.domain_zone_response.specs.declared.edns.Server.{Server}
 use Rattle.domain_zone_response.specs.declared.edns.Transport.{Transport}
 use Rattle.domain_zone_response.specs.declared.edns.Transport.TheVariants.{Datagram, Stream}
 
--- How many octets a response has at most: over a stream 65,535 (RFC 1035, 4.2.2). Over a datagram 512 (RFC 1035, 4.2.1),
--- or with EDNS what both sides take, each at least 512 (RFC 6891, 6.2.3 and 6.2.5).
+-- How many octets a response has at most: over a stream 65,535 (RFC 1035, 4.2.2). Over a datagram 512 (RFC 1035,
+-- 4.2.1), or with EDNS what both sides take, each at least 512 (RFC 6891, 6.2.3 and 6.2.5).
 abbrev pub limit_over : Transport → ℕ → Asked → ℕ
 limit_over Stream size asked = 65535
 limit_over Datagram size (Ok None) = 512
@@ -26,7 +26,8 @@ plain_opt size upper dnssec_ok =
     record { udp_payload_size = taken_size size; rcode_ext = upper; version = 0; dnssec_ok = dnssec_ok; options = [] }
 
 -- The OPT record of a response: there is one exactly where the query has one and no entry of it is missing (RFC 6891,
--- 6.1.1). DO is that of the query (RFC 3225, 3), and clear where that has two OPT records, or one that isn't of the root.
+-- 6.1.1). DO is that of the query (RFC 3225, 3), and clear where that has two OPT records, or one that isn't of the
+-- root.
 abbrev pub response_opt : ℕ → Asked → ℕ → Option Opt
 response_opt size (Ok None) upper = None
 response_opt size (Ok (Some opt)) upper = Some (plain_opt size upper (dnssec_ok_bit (opt_ttl opt) == 1))

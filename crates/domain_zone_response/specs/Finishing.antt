@@ -48,8 +48,8 @@ abbrev pub Refuses : {T E : Type 0} {g : _} {h : _} {i : _} {j : _} {k : _} {l :
     → List ℕ → ℕ → Option Opt → MessageBuilder T E g h i j k l → List ℕ → Type 0
 Refuses {g = g} m code opt b made = RefusesBy g.compresses m code opt (state b) made
 
--- The question was pushed, and then what the zone answers to it, and the header was set. `asked` is the state after the
--- question, with the same limit and as many octets set aside.
+-- The question was pushed, and then what the zone answers to it, and the header was set. `asked` is the state after
+-- the question, with the same limit and as many octets set aside.
 pub record Answered (compresses : Bool) (z : Zone) (class : ℕ) (query : Header) (q : QuestionFields) (capacity : ℕ) (old new : State) : Type 0 where
   pub outcome : Outcome
   pub answers : Answers z q.name q.rtype outcome

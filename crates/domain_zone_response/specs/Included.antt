@@ -22,16 +22,17 @@ cut_of (too_long s) = Root
 cut_of (synthesized r) = Root
 cut_of name_error = Root
 
--- Of the addresses xs, the RRsets ys are those at or below the cut, in their order, and zs the others: glue of in-domain
--- name servers is required (RFC 9471, 3.1).
+-- Of the addresses xs, the RRsets ys are those at or below the cut, in their order, and zs the others: glue of
+-- in-domain name servers is required (RFC 9471, 3.1).
 pub data Parts (cut : List (List ℕ)) : List RRset → List RRset → List RRset → Type 0 where
   none : Parts cut [] [] []
   required : (s : RRset) (xs ys zs : List RRset) → EndsWith s.owner cut → Parts cut xs ys zs → Parts cut (s ∷ xs) (s ∷ ys) zs
   other : (s : RRset) (xs ys zs : List RRset) → (EndsWith s.owner cut → ⊥) → Parts cut xs ys zs → Parts cut (s ∷ xs) ys (s ∷ zs)
 
 -- Which RRsets the three sections have, and whether that are all that are required. In the additional section the
--- required ones come first (RFC 9471, 3.2), and as many of the others as were pushed after them. Else it ends before the
--- first required RRset that is left out: `Left section s` says why s is, and each RRset before it is whole (RFC 2181, 9).
+-- required ones come first (RFC 9471, 3.2), and as many of the others as were pushed after them. Else it ends before
+-- the first required RRset that is left out: `Left section s` says why s is, and each RRset before it is whole (RFC
+-- 2181, 9).
 pub data Kept (cut : List (List ℕ)) (all : Sections) (Left : Section → RRset → Type 0) : Bool → List RRset → List RRset → List RRset → Type 0 where
   whole : (ys zs : List RRset) (n : ℕ) → Parts cut all.additional ys zs → length ys ≤ n → Kept cut all Left true all.answer all.authority (take n (ys ++ zs))
   no_answer : (kept : List RRset) (s : RRset) (rest : List RRset) → all.answer ≡ kept ++ s ∷ rest → Left Answer s → Kept cut all Left false kept [] []

@@ -30,15 +30,15 @@ TellsOpt m (Err e) = HasOptFault m e
 abbrev pub opcode_code : ℕ → Option ℕ → Option ℕ
 opcode_code opcode other = if nat_lt 0 opcode then Some 4 else other
 
--- The response code of a query, whatever it asks: BADVERS where the version of EDNS is above 0 (RFC 6891, 6.1.3); NOTIMP;
--- FORMERR where an entry is missing, or the OPT records aren't one of the root (RFC 6891, 6.1.1 and 6.1.2).
+-- The response code of a query, whatever it asks: BADVERS where the version of EDNS is above 0 (RFC 6891, 6.1.3);
+-- NOTIMP; FORMERR where an entry is missing, or the OPT records aren't one of the root (RFC 6891, 6.1.1 and 6.1.2).
 abbrev pub header_code : ℕ → Asked → Option ℕ
 header_code opcode (Ok None) = opcode_code opcode None
 header_code opcode (Ok (Some opt)) = if nat_lt 0 (edns_version (opt_ttl opt)) then Some 16 else opcode_code opcode None
 header_code opcode (Err e) = opcode_code opcode (Some 1)
 
--- The response code of a question for this type: NOTIMP for IXFR, AXFR, MAILB and MAILA, FORMERR for another meta type, 0
--- and 65,535 (RFC 6895, 3.1), and none for ANY and types of data.
+-- The response code of a question for this type: NOTIMP for IXFR, AXFR, MAILB and MAILA, FORMERR for another meta
+-- type, 0 and 65,535 (RFC 6895, 3.1), and none for ANY and types of data.
 abbrev pub type_code : ℕ → Option ℕ
 type_code t =
     if t == 255 then None else
@@ -54,8 +54,8 @@ HasQuestion m q = (number16 m 4 ≡ 1) × (e : ℕ) × QuestionAt m 12 q e
 abbrev pub opcode_of : List ℕ → ℕ
 opcode_of m = bits 8 16 (slice_index m 2)
 
--- The question that a zone of this class answers, or the response code of the query: in this order a fault of the header
--- or of EDNS, FORMERR where there isn't one question, REFUSED for another class, and a fault of the type.
+-- The question that a zone of this class answers, or the response code of the query: in this order a fault of the
+-- header or of EDNS, FORMERR where there isn't one question, REFUSED for another class, and a fault of the type.
 pub data Asks (m : List ℕ) (class : ℕ) (asked : Asked) : Result QuestionFields ℕ → Type 0 where
   of_header : (code : ℕ) → header_code (opcode_of m) asked ≡ Some code → Asks m class asked (Err code)
   not_one : (why : ParseError) → header_code (opcode_of m) asked ≡ None → NoSoleQuestion m why → Asks m class asked (Err 1)

@@ -32,8 +32,8 @@ pub record IsBegun (compresses : Bool) (limit aside : ℕ) (q : QuestionFields) 
 abbrev pub AnswersQuery : List ℕ → Bool → Bool → ℕ → Header → Type 0
 AnswersQuery m aa tc rcode h = IsResponseHeader (number16 m 0) (slice_index m 2) (slice_index m 3) aa tc rcode h
 
--- What a message holds that answers the question q of the query m from the zone z, and its header: the sections of the one
--- outcome, whole or with TC up to the first required RRset that doesn't fit.
+-- What a message holds that answers the question q of the query m from the zone z, and its header: the sections of the
+-- one outcome, whole or with TC up to the first required RRset that doesn't fit.
 pub record IsAnswered (compresses : Bool) (z : Zone) (class limit aside capacity : ℕ) (m : List ℕ) (q : QuestionFields) (header : Header) (it : Content) : Type 0 where
   pub outcome : Outcome
   pub answers : Answers z q.name q.rtype outcome
@@ -73,8 +73,8 @@ abbrev pub upper_bits : Result QuestionFields ℕ → ℕ
 upper_bits (Ok q) = 0
 upper_bits (Err code) = code / 16
 
--- The octets `made` are the response to the query m from the zone z: a reader finds this header, these entries in their
--- sections, the OPT record last, and nothing else.
+-- The octets `made` are the response to the query m from the zone z: a reader finds this header, these entries in
+-- their sections, the OPT record last, and nothing else.
 pub record Responds (compresses : Bool) (z : Zone) (class : ℕ) (server : Server) (capacity : ℕ) (m made : List ℕ) : Type 0 where
   pub asked : Asked
   pub tells : TellsOpt m asked

@@ -13,8 +13,8 @@ use Rattle.domain_zone_response.specs.Edns.{response_limit}
 use Rattle.domain_zone_response.specs.Queries.{Asked, TellsOpt}
 use Rattle.domain_zone_response.specs.declared.edns.Server.{Server}
 
--- In a message of at most `limit` octets, in a target of at least this capacity, the first question of the query m can't
--- be pushed; or an OPT record without options can't be pushed after the rest.
+-- In a message of at most `limit` octets, in a target of at least this capacity, the first question of the query m
+-- can't be pushed; or an OPT record without options can't be pushed after the rest.
 pub data LacksEntry (compresses : Bool) (m : List ℕ) (limit capacity : ℕ) : Type 0 where
   no_question : (q : QuestionFields) (s : State) (room : ℕ) → BeginsWithQuestion m q → Holds compresses s no_content → s.limit ≡ limit → capacity ≤ room → CannotAsk compresses q s room
       → LacksEntry compresses m limit capacity

@@ -1,5 +1,5 @@
--- What contracts say about a builder to which RRsets are pushed. `g` is what `Composer` provides, and `h` to `l` are as
--- in `Builders` of `domain_message_builder`.
+-- What contracts say about a builder to which RRsets are pushed. `g` is what `Composer` provides, and `h` to `l` are
+-- as in `Builders` of `domain_message_builder`.
 use Rattle.std.specs.Prelude.{◌≡◌, ℕ, Bool, List, ◌++◌, map, length}
 use Rattle.domain_header.specs.Values.{class_number}
 use Rattle.domain_message.specs.declared.section.Section.{Section}

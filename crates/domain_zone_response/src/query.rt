@@ -66,8 +66,8 @@ fn header_fault(header: Header, asked: &Result<Option<OptRecord<'_>>, OptError>)
 /// The question of a query, or the response code by which it is refused.
 ///
 /// In this order: BADVERS where the version of EDNS isn't 0 (RFC 6891, 6.1.3); NOTIMP where the opcode isn't QUERY;
-/// FORMERR where an entry is missing, there is more than one OPT record (6.1.1), or not one question; REFUSED where the
-/// class isn't this one; then those of the type.
+/// FORMERR where an entry is missing, there is more than one OPT record (6.1.1), or not one question; REFUSED where
+/// the class isn't this one; then those of the type.
 pub(crate) fn question_of<'a>(
     message: &'a Message<&[u8]>,
     asked: &Result<Option<OptRecord<'_>>, OptError>,
