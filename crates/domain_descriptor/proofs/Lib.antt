@@ -1,3 +1,5 @@
 pub mod Steps
 pub mod Exact
+pub mod OneFault
+pub mod Stopping
 pub mod Whole

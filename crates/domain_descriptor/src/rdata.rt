@@ -62,6 +62,21 @@ impl<'m> Rdata<'m> {
         }
     }
 
+    /// Octets that are known to be such data, which aren't tested again.
+    pub fn of_whole(rtype: u16, class: u16, message: &'m [u8], begin: usize) -> Rdata<'m>
+        requires inside { begin ≤ length message.now }
+        requires whole { (why : DataFault) → AreNoData (known_fields rtype class) message.now begin why → ⊥ }
+        ensures { IsRdata rtype class message.now begin result }
+    {
+        Rdata {
+            rtype,
+            class,
+            message,
+            begin,
+            kinds: known_fields(rtype, class),
+        }
+    }
+
     /// The type of the record.
     pub fn rtype(&self) -> u16
         ensures { result ≡ rdata_type self.now }

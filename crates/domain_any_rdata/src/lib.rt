@@ -1,0 +1,21 @@
+//! Record data of any type by one table: read from a message, composed, compared, owned and shown (RFC 1035, 3.2.1).
+#![tactic(auto)]
+
+pub mod all;
+mod compose;
+mod display;
+mod len;
+mod look;
+pub mod name_form;
+mod order;
+pub mod owned;
+mod owned_calls;
+mod read;
+mod reader;
+
+pub use all::AllRecordData;
+pub use name_form::NameForm;
+pub use owned::OwnedRecordData;
+
+#[cfg(test)]
+mod tests;
