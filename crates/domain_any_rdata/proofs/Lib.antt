@@ -1,6 +1,6 @@
 pub mod Named
+pub mod Naming
 pub mod Composed
 pub mod Lengths
 pub mod Forms
-pub mod Reader
-pub mod Back
+pub mod Cutting

@@ -1,5 +1,5 @@
 -- Fields of data are its parts.
-use Rattle.std.proofs.Common.{◌≡◌, ◌∙◌, ◌×◌, ℕ, Bool, false, true, List, [], ◌∷◌, length, slice_range, refl, sym, ap, subst}
+use Rattle.std.proofs.Common.{◌≡◌, ◌∙◌, ℕ, Bool, false, true, List, [], ◌∷◌, length, slice_range, refl, sym, ap, subst}
 use Rattle.domain_label.specs.Wire.{IsAbsoluteName}
 use Rattle.domain_reading.proofs.LabelsAt.{labels_named}
 use Rattle.domain_reading.proofs.Reading.{names_absolute}
@@ -18,7 +18,7 @@ use Rattle.domain_descriptor.specs.declared.kind.FieldKind.TheVariants.{Name}
 use Rattle.domain_descriptor.specs.declared.rdata.Rdata.{Rdata}
 use Rattle.domain_descriptor.specs.declared.rdata.Field.{Field}
 use Rattle.domain_descriptor.specs.declared.rdata.FieldIter.{FieldIter}
-use Rattle.domain_rdata_text.proofs.Standing.{name_alone}   -- make it `pub` (Standing.antt, 51): only a name is read so
+use Rattle.domain_descriptor.proofs.Whole.{name_alone}
 use Rattle.domain_fields.specs.Parts.{Part, a_name, no_name}
 use Rattle.domain_any_rdata.specs.Parts.{form_part, field_part, parts_at, rdata_parts, part_of, parts_left, IsNamed, AreNamed}
 

@@ -1,13 +1,13 @@
 -- What may be appended for record data, and what a target becomes: part by part, names in one form. Its octets with no
 -- name compressed are `parts_octets` of domain_fields, names in lowercase or with their case.
-use Rattle.std.specs.Prelude.{◌≡◌, ℕ, Bool, true, false, List, [], ◌∷◌, ◌++◌, if◌then◌else◌, refl}
+use Rattle.std.specs.Prelude.{◌≡◌, ℕ, ◌≤◌, Bool, true, false, List, [], ◌∷◌, ◌++◌, if◌then◌else◌, length, refl}
 use Rattle.std.proofs.Common.{sym, ◌∙◌, append-nil}
 use Rattle.domain_label.specs.Wire.{wire}
 use Rattle.domain_rdata.specs.Members.{Writing}
 use Rattle.domain_rdata.specs.OctetsAlone.{WritesComposed, octets_written, name_written}
 use Rattle.domain_rdata.specs.RecordData.{NameOctets}
 use Rattle.domain_fields.specs.Cases.{cased_labels}
-use Rattle.domain_fields.specs.FieldLaws.{wire_octets}
+use Rattle.domain_fields.specs.FieldLaws.{wire_octets, no_longer}
 use Rattle.domain_fields.specs.Parts.{Part, a_name, no_name, part_octets, parts_octets}
 use Rattle.domain_fields.specs.Sequences.{BothComposed, BothWritten, both_plain, both_flat, both_written}
 use Rattle.domain_any_rdata.specs.Parts.{IsNamed, AreNamed}
@@ -81,6 +81,12 @@ parts_flat (x ∷ xs) t s both =
 pub type_flat : (compressed : Bool) (xs : List Part) (t s : List ℕ) → PartsComposed xs (composed_form compressed) false t s → s ≡ parts_octets false xs
 type_flat true xs t s may = parts_flat xs t s may
 type_flat false xs t s may = parts_whole xs false false t s may
+
+-- ---- what may be appended for a part is no longer than it is with no name compressed
+pub part_shorter : (x : Part) (how : NameForm) (c : Bool) (t s : List ℕ) → PartComposed x how c t s → length s ≤ length (part_octets (lowers how) x)
+part_shorter (a_name ls) Compressed c t s name = name.read.short
+part_shorter (a_name ls) (Whole lowercase) c t s is = no_longer (wire (cased_labels lowercase ls)) s is
+part_shorter (no_name octets) how c t s is = no_longer octets s is
 
 -- ---- `writes_composed`
 part_write : (x : Part) (how : NameForm) → WritesComposed (part_written x how) (PartComposed x how)

@@ -5,3 +5,4 @@ pub mod Reading
 pub mod Keys
 pub mod Readers
 pub mod Owned
+pub mod Back

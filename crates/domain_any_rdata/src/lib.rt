@@ -3,9 +3,7 @@
 
 pub mod all;
 mod compose;
-mod display;
 mod len;
-mod look;
 pub mod name_form;
 mod order;
 pub mod owned;
@@ -17,5 +15,3 @@ pub use all::AllRecordData;
 pub use name_form::NameForm;
 pub use owned::OwnedRecordData;
 
-#[cfg(test)]
-mod tests;

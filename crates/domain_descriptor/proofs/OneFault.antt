@@ -1,7 +1,7 @@
 -- There is one first error. Each error is a function of the octets (`block_reason`, `param_reason`), so that two are
 -- equal; Exact.antt says that an error and a field exclude one another.
 use Rattle.std.proofs.Common.{◌≡◌, ◌∙◌, ◌⊎◌, ℕ, ◌+◌, ◌<◌, ◌≤◌, List, [], ◌∷◌, length, refl, sym, ap, subst, inl, inr, true, false, nat_lt, ◌||◌, if◌then◌else◌, arith}
-use Rattle.std.specs.Prelude.{slice_index, slice_range}
+use Rattle.std.specs.Prelude.{slice_index}
 use Rattle.std.proofs.lemmas.Bool.Decides.{nat_tests}
 use Rattle.domain_header.specs.Numbers.{number16}
 use Rattle.domain_reading.proofs.NameOrFault.{one_fault}

@@ -1,5 +1,5 @@
 -- A field ends where the function says.
-use Rattle.std.proofs.Common.{◌≡◌, ◌∙◌, ◌⊎◌, ℕ, zero, suc, ◌+◌, ◌<◌, ◌≤◌, List, [], ◌∷◌, length, slice_index, refl, sym, ap, inl, inr, true, false, cond, nat_eq, nat_lt, arith}
+use Rattle.std.proofs.Common.{◌≡◌, ◌∙◌, ℕ, zero, suc, ◌+◌, ◌<◌, List, [], ◌∷◌, length, slice_index, refl, sym, ap, inl, inr, true, false, nat_eq, nat_lt, arith}
 use Rattle.std.proofs.lemmas.Bool.Decides.{nat_tests}
 use Rattle.domain_reading.proofs.Encodings.{run_inside}
 use Rattle.domain_reading.specs.Grammar.{OctetAt, LabelAt, PointerAt, LabelRun, Stop, StopAt, EncodingEnds}
