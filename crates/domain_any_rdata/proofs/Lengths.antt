@@ -5,7 +5,7 @@ use Rattle.domain_label.specs.Wire.{wire}
 use Rattle.domain_fields.specs.Cases.{cased_labels}
 use Rattle.domain_fields.specs.Parts.{Part, a_name, no_name, part_octets, parts_octets}
 
-part_size : (lowercase : Bool) (x : Part) → length (part_octets lowercase x) ≡ length (part_octets false x)
+pub part_size : (lowercase : Bool) (x : Part) → length (part_octets lowercase x) ≡ length (part_octets false x)
 part_size true (a_name ls) = lowercase_size ls
 part_size false (a_name ls) = refl
 part_size lowercase (no_name octets) = refl

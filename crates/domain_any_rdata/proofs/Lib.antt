@@ -3,4 +3,6 @@ pub mod Naming
 pub mod Composed
 pub mod Lengths
 pub mod Forms
+pub mod Same
+pub mod Back
 pub mod Cutting

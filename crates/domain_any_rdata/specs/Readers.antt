@@ -1,6 +1,5 @@
 -- What contracts see of octets that are taken from the left.
 use Rattle.std.specs.Prelude.{ℕ, List, ◌++◌, length, drop, nat_lt, if◌then◌else◌}
-use Rattle.domain_descriptor.specs.Rdatas.{kinds_left}
 use Rattle.domain_fields.specs.Parts.{parts_octets}
 use Rattle.domain_any_rdata.specs.Parts.{parts_left}
 use Rattle.domain_any_rdata.specs.declared.reader.OctetReader.{OctetReader}
@@ -12,7 +11,3 @@ in_hand it = if nat_lt it.taken (length it.name.items) then drop it.taken it.nam
 -- The rest of a name is taken before the octets that were in hand before it: there are none then.
 abbrev pub octets_left : OctetReader → List ℕ
 octets_left it = drop it.taken it.name.items ++ (it.octets.now ++ parts_octets it.lowercase (parts_left it.fields))
-
--- how many fields come
-abbrev pub fields_to_come : OctetReader → ℕ
-fields_to_come it = length (kinds_left it.fields)

@@ -43,7 +43,7 @@ once rtype m p why other (inr a) (inr b) =
 
 neither : (rtype : ℕ) (m : List ℕ) (p : ℕ) (parts : List Part) (e : ℕ) (why : ParseError) → InternetDataAt rtype m p parts e → NoInternetData rtype m p why → ⊥
 neither rtype m p parts e why at (inl long) = omega (arith, at.1, long.0)
-neither rtype m p parts e why at (inr no) = data_or_fault (known_fields rtype 1) m p no.2.0 at.0.are no.2.1
+neither rtype m p parts e why at (inr fails) = data_or_fault (known_fields rtype 1) m p fails.2.0 at.0.are fails.2.1
 
 -- At each offset there is one value or one error, never both.
 pub internet_data_reading : (rtype : ℕ) → IsReading (InternetDataAt rtype) (NoInternetData rtype)

@@ -2,12 +2,12 @@
 ghost use Rattle.std.specs.Prelude.{◌≡◌, ◌≤◌, length, not, nat_le, false, true, if◌then◌else◌, ◌&&◌, Some, None, IfOk, IfErr};
 ghost use Rattle.domain_descriptor.specs.Fields.{AreData, AreNoData};
 ghost use Rattle.domain_descriptor.specs.Table.{compresses_names, known_fields};
-ghost use Rattle.domain_descriptor.specs.declared.fault.DataFault.{DataFault};
+ghost use Rattle.domain_descriptor.specs.Rdatas.{rdata_kinds, rdata_type, rdata_class};
 ghost use Rattle.domain_header.specs.Values.{class_number};
 ghost use Rattle.domain_rdata.specs.Rtypes.{rtype_number};
 ghost use Rattle.domain_fields.specs.Parts.{parts_octets};
 ghost use Rattle.domain_any_rdata.specs.Composing.{PartsComposed, parts_written, parts_write, composed_form, type_plain, type_flat};
-ghost use Rattle.domain_any_rdata.specs.Parts.{AreNamed, AreNamed_prop, parts_at, rdata_parts};
+ghost use Rattle.domain_any_rdata.specs.Parts.{AreNamed, AreNamed_prop, CantBeOthers, IsDataOf, parts_at, rdata_parts};
 
 use crate::compose::compose_fields;
 use crate::len::uncompressed_len;
@@ -22,6 +22,8 @@ use domain_rdata::{CanonicalRecordData, ComposeRecordData, Composer, RecordData,
 #[derive(Clone, Copy, Debug)]
 pub struct AllRecordData<'m> {
     rdata: Rdata<'m>,
+    ghost known: { rdata_kinds rdata ≡ known_fields (rdata_type rdata) (rdata_class rdata) },
+    ghost certain: { IsDataOf rdata },
     ghost named: { AreNamed (rdata_parts rdata) } by { AreNamed_prop (rdata_parts rdata) },
 }
 
@@ -34,7 +36,7 @@ impl<'m> AllRecordData<'m> {
     /// # Errors
     ///
     /// The first error from the left, as [`domain_descriptor::check_data`] has it.
-    #[tactic(auto, using(crate::proofs::Named::data_named))]
+    #[tactic(auto, using(crate::proofs::Named::data_named, crate::proofs::Named::known_kinds, crate::proofs::Named::data_certain))]
     pub fn parse(
         rtype: Rtype,
         class: Class,
@@ -56,6 +58,7 @@ impl<'m> AllRecordData<'m> {
     }
 
     /// The same of octets that are known to be such data. They aren't tested again.
+    #[tactic(auto, using(crate::proofs::Named::no_fault, crate::proofs::Named::known_kinds, crate::proofs::Named::certain_of, crate::proofs::Named::named_of))]
     pub(crate) fn of_whole(
         rtype: u16,
         class: u16,
@@ -63,7 +66,7 @@ impl<'m> AllRecordData<'m> {
         begin: usize,
     ) -> AllRecordData<'m>
         requires inside { begin ≤ length message.now }
-        requires whole { (why : DataFault) → AreNoData (known_fields rtype class) message.now begin why → ⊥ }
+        requires certain { CantBeOthers (known_fields rtype class) message.now begin }
         requires named { AreNamed (parts_at (known_fields rtype class) message.now begin) }
         ensures { IsAllData rtype class message.now begin result }
     {

@@ -3,6 +3,7 @@
 
 pub mod all;
 mod compose;
+mod left;
 mod len;
 pub mod name_form;
 mod order;

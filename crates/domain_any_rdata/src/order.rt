@@ -11,7 +11,8 @@ ghost use Rattle.domain_fields.specs.Parts.{parts_octets};
 ghost use Rattle.domain_any_rdata.specs.Keys.{data_key, key_writes, same_key_writes};
 
 use crate::all::AllRecordData;
-use crate::reader::{OctetReader, hash_left, order_octets};
+use crate::left::{hash_left, order_octets};
+use crate::reader::OctetReader;
 use domain_rdata::RecordData;
 use domain_wire::{CanonicalOrd, TotalCanonicalOrd};
 use std::cmp::Ordering;

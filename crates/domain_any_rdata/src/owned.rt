@@ -1,10 +1,8 @@
 //! Record data that owns its octets: uncompressed, and tested once.
 ghost use Rattle.std.specs.Prelude.{◌≡◌, ◌≤◌, ◌<◌, false, length, IfOk, OnErr};
-ghost use Rattle.domain_descriptor.specs.Fields.{AreNoData};
 ghost use Rattle.domain_descriptor.specs.Table.{known_fields};
-ghost use Rattle.domain_descriptor.specs.declared.fault.DataFault.{DataFault};
 ghost use Rattle.domain_fields.specs.Parts.{parts_octets};
-ghost use Rattle.domain_any_rdata.specs.Parts.{AreNamed, AreNamed_prop, parts_at};
+ghost use Rattle.domain_any_rdata.specs.Parts.{AreNamed, AreNamed_prop, CantBeOthers, parts_at};
 
 use crate::all::AllRecordData;
 use crate::compose::compose_fields;
@@ -20,7 +18,7 @@ pub struct OwnedRecordData {
     rtype: u16,
     class: u16,
     octets: Vec<u8>,
-    ghost whole: { (why : DataFault) → AreNoData (known_fields rtype class) octets.items 0 why → ⊥ },
+    ghost certain: { CantBeOthers (known_fields rtype class) octets.items 0 },
     ghost named: { AreNamed (parts_at (known_fields rtype class) octets.items 0) }
         by { AreNamed_prop (parts_at (known_fields rtype class) octets.items 0) },
 }

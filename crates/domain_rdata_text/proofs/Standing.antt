@@ -8,6 +8,7 @@ use Rattle.domain_reading.proofs.Touching.{reads_inside}
 use Rattle.domain_reading.proofs.UncompressedIsRead.{plain_names, plain_front}
 use Rattle.domain_reading.specs.Grammar.{Names, EncodingEnds}
 use Rattle.domain_reading.specs.Grammar.Stop.{root as stop_root}
+use Rattle.domain_descriptor.proofs.Moving.{moved, form_moved}
 use Rattle.domain_descriptor.proofs.Whole.{field_inside, field_whole, name_alone}
 use Rattle.domain_descriptor.specs.declared.form.FieldForm.{FieldForm}
 use Rattle.domain_descriptor.specs.declared.form.FieldForm.TheVariants as reading
@@ -21,7 +22,6 @@ use Rattle.domain_rdata_text.specs.Texts.{IsPlain}
 use Rattle.domain_rdata_text.specs.Values.{Val, val_octets, vals_octets, val_in, ValueAt, ValuesAt}
 use Rattle.domain_rdata_text.specs.Values.Val.{name}
 use Rattle.domain_rdata_text.proofs.Holding.{held_in}
-use Rattle.domain_rdata_text.proofs.Moving.{moved, form_moved}
 use Rattle.domain_rdata_text.proofs.Octets.{octets_range}
 
 -- ---- nothing is after the end
