@@ -1,15 +1,22 @@
--- The canonical form, and what is known of its names (RFC 4034, 6.2).
-use Rattle.std.proofs.Common.{◌≡◌, ◌∙◌, ℕ, Bool, true, false, not, ◌&&◌, ◌||◌, if◌then◌else◌, Option, None, Some, IfSome, List, length, refl, sym, ap, subst}
+-- What is composed: in the form of the type, in the canonical form (RFC 4034, 6.2), and of which length.
+use Rattle.std.proofs.Common.{◌≡◌, ◌∙◌, ℕ, ◌+◌, ◌<◌, Bool, true, false, not, ◌&&◌, ◌||◌, if◌then◌else◌, Option, None, Some, IfSome, Result, OnOk, OnErr, List, ◌++◌, length, refl, sym, ap, subst}
+use Rattle.std.proofs.lemmas.Result.{on_ok_weaker}
 use Rattle.domain_rdata.specs.Canonical.{lowercase_where_known, canonical_form, names_known}
+use Rattle.domain_rdata.specs.ReadBack.{Appended}
 use Rattle.domain_rdata.specs.Rtypes.{has_lowercase_names}
+use Rattle.domain_fields.specs.Parts.{Part, parts_octets}
+use Rattle.domain_any_rdata.specs.Composing.{PartsComposed, composed_form, lowers, parts_whole, parts_flat}
+use Rattle.domain_any_rdata.specs.declared.name_form.NameForm.{NameForm}
+use Rattle.domain_any_rdata.specs.declared.name_form.NameForm.TheVariants.{Compressed, Whole}
+use Rattle.domain_any_rdata.proofs.Lengths.{parts_size}
 
-pub picked : (lowered known : Bool) (form : Bool → List ℕ) → (if lowered then lowercase_where_known (form false) (if known then Some (form true) else None) else form false) ≡ form (known && lowered)
+picked : (lowered known : Bool) (form : Bool → List ℕ) → (if lowered then lowercase_where_known (form false) (if known then Some (form true) else None) else form false) ≡ form (known && lowered)
 picked true true form = refl
 picked true false form = refl
 picked false true form = refl
 picked false false form = refl
 
--- so `canonical_octets` are the canonical form of the trait
+-- so the canonical form of the trait is that of the parts
 pub form_is : (t : ℕ) (known : Bool) (form : Bool → List ℕ) → canonical_form t (form false) (if known then Some (form true) else None) ≡ form (known && has_lowercase_names t)
 form_is t known form = picked (has_lowercase_names t) known form
 
@@ -17,8 +24,49 @@ pub known_is : (t : ℕ) (known : Bool) (form : List ℕ) → (known || not (has
 known_is t true form = refl
 known_is t false form = refl
 
--- the clause `canonical` of `rdlen`
-pub form_size : (t : ℕ) (known : Bool) (form : Bool → List ℕ) → ((lowercase : Bool) → length (form lowercase) ≡ length (form false)) → (compress : Bool) (told : Option ℕ)
-    → IfSome told (λ n. length (form false) ≡ n) → compress ≡ false → IfSome told (λ n. length (canonical_form t (form false) (if known then Some (form true) else None)) ≡ n)
-form_size t known form same compress None told flat = tt
-form_size t known form same compress (Some n) told flat = ap length (form_is t known form) ∙ (same (known && has_lowercase_names t) ∙ told)
+abbrev canonical : ℕ → Bool → List Part → List ℕ
+canonical t known xs = canonical_form t (parts_octets false xs) (if known then Some (parts_octets true xs) else None)
+
+lowered : (t : ℕ) (known lowercase : Bool) (xs : List Part) → lowercase ≡ (known && has_lowercase_names t) → parts_octets lowercase xs ≡ canonical t known xs
+lowered t known lowercase xs is = ap (λ b. parts_octets b xs) is ∙ sym (form_is t known (λ b. parts_octets b xs))
+
+pub canonical_grown : {U E : Type 0} (r : Result U E) (t : ℕ) (known lowercase compresses : Bool) (xs : List Part) (old new : List ℕ) → lowercase ≡ (known && has_lowercase_names t)
+    → OnOk r (Appended (PartsComposed xs (Whole lowercase) compresses old) old new) → OnOk r (new ≡ old ++ canonical t known xs)
+canonical_grown r t known lowercase compresses xs old new is done =
+    on_ok_weaker r (λ (a : Appended (PartsComposed xs (Whole lowercase) compresses old) old new). a.all ∙ ap (λ (s : List ℕ). old ++ s) (parts_whole xs lowercase compresses old a.octets a.allowed ∙ lowered t known lowercase xs is)) done
+
+pub canonical_full : {U E : Type 0} (r : Result U E) (t : ℕ) (known lowercase : Bool) (xs : List Part) (old : List ℕ) (capacity : ℕ) → lowercase ≡ (known && has_lowercase_names t)
+    → OnErr r (capacity < length old + length (parts_octets lowercase xs)) → OnErr r (capacity < length old + length (canonical t known xs))
+canonical_full r t known lowercase xs old capacity is full =
+    subst (λ (o : List ℕ). OnErr r (capacity < length old + length o)) (lowered t known lowercase xs is) full
+
+pub canonical_some : {U E : Type 0} (r : Result U E) (t : ℕ) (known lowercase : Bool) (xs : List Part) → lowercase ≡ (known && has_lowercase_names t)
+    → OnErr r (0 < length (parts_octets lowercase xs)) → OnErr r (0 < length (canonical t known xs))
+canonical_some r t known lowercase xs is some = subst (λ (o : List ℕ). OnErr r (0 < length o)) (lowered t known lowercase xs is) some
+
+-- ---- lengths
+sized_by : (told : Option ℕ) (xs : List Part) (o : List ℕ) → length o ≡ length (parts_octets false xs) → IfSome told (λ n. length (parts_octets false xs) ≡ n) → IfSome told (λ n. length o ≡ n)
+sized_by None xs o same flat = tt
+sized_by (Some n) xs o same flat = same ∙ flat
+
+pub form_size : (t : ℕ) (known compress : Bool) (xs : List Part) (told : Option ℕ) → IfSome told (λ n. length (parts_octets false xs) ≡ n)
+    → compress ≡ false → IfSome told (λ n. length (canonical t known xs) ≡ n)
+form_size t known compress xs told flat no =
+    sized_by told xs (canonical t known xs) (ap (λ (o : List ℕ). length o) (form_is t known (λ b. parts_octets b xs)) ∙ parts_size (known && has_lowercase_names t) xs) flat
+
+one_size : (compress compressed : Bool) (xs : List Part) (n : ℕ) → (compress && compressed) ≡ false → length (parts_octets false xs) ≡ n
+    → (t s : List ℕ) → PartsComposed xs (composed_form compressed) compress t s → length s ≡ n
+one_size true true xs n other flat t s may = absurd (cc)
+one_size false true xs n other flat t s may = ap (λ (o : List ℕ). length o) (parts_flat xs t s may) ∙ flat
+one_size true false xs n other flat t s may = ap (λ (o : List ℕ). length o) (parts_whole xs false true t s may) ∙ flat
+one_size false false xs n other flat t s may = ap (λ (o : List ℕ). length o) (parts_whole xs false false t s may) ∙ flat
+
+pub all_sized : (compress compressed : Bool) (xs : List Part) (told : Option ℕ) → (compress && compressed) ≡ false → IfSome told (λ n. length (parts_octets false xs) ≡ n)
+    → IfSome told (λ n. (t s : List ℕ) → PartsComposed xs (composed_form compressed) compress t s → length s ≡ n)
+all_sized compress compressed xs None other flat = tt
+all_sized compress compressed xs (Some n) other flat = one_size compress compressed xs n other flat
+
+-- ---- the form of the type
+pub form_lowers : (compressed : Bool) → lowers (composed_form compressed) ≡ false
+form_lowers true = refl
+form_lowers false = refl

@@ -6,3 +6,4 @@ pub mod Forms
 pub mod Same
 pub mod Back
 pub mod Cutting
+pub mod Owning

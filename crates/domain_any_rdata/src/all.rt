@@ -36,7 +36,6 @@ impl<'m> AllRecordData<'m> {
     /// # Errors
     ///
     /// The first error from the left, as [`domain_descriptor::check_data`] has it.
-    #[tactic(auto, using(crate::proofs::Named::data_named, crate::proofs::Named::known_kinds, crate::proofs::Named::data_certain))]
     pub fn parse(
         rtype: Rtype,
         class: Class,
@@ -58,7 +57,6 @@ impl<'m> AllRecordData<'m> {
     }
 
     /// The same of octets that are known to be such data. They aren't tested again.
-    #[tactic(auto, using(crate::proofs::Named::no_fault, crate::proofs::Named::known_kinds, crate::proofs::Named::certain_of, crate::proofs::Named::named_of))]
     pub(crate) fn of_whole(
         rtype: u16,
         class: u16,

@@ -12,7 +12,7 @@ use std::hash::Hasher;
 
 /// The order of the octets that are left of two.
 pub(crate) fn order_octets(first: OctetReader<'_>, second: OctetReader<'_>) -> Ordering
-    ensures { result ≡ slice_cmp nat_cmp (octets_left first) (octets_left second) }
+    ensures { result ≡ slice_cmp nat_cmp (octets_left first.entry) (octets_left second.entry) }
 {
     let mut first = first;
     let mut second = second;
@@ -36,7 +36,7 @@ pub(crate) fn order_octets(first: OctetReader<'_>, second: OctetReader<'_>) -> O
 
 /// Writes the octets that are left to the hasher, each as one `u8`.
 pub(crate) fn hash_left<H: Hasher>(left: OctetReader<'_>, state: &mut H)
-    ensures { state.new ≡ hashed H.write (octets_left left) state.old }
+    ensures { state.new ≡ hashed H.write (octets_left left.entry) state.old }
 {
     let mut left = left;
     'octets: while left.fill() {
