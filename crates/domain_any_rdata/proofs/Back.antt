@@ -138,9 +138,9 @@ stands (k ∷ ks) m p e begins (q, field, rest) t =
     let w = t ++ (o ++ u) in
     let there = field_stops k w (length t) (length (t ++ o)) one.0 in
     let parts : parts_at (k ∷ ks) w (length t) ≡ x ∷ xs =
-        ap (λ (y : ℕ). field_part k w (length t) y ∷ parts_at ks w y) there
-        ∙ ap (λ (y : Part). y ∷ parts_at ks w (length (t ++ o))) one.1
-        ∙ ap (λ (ys : List Part). x ∷ ys) same in
+    ap (λ (y : ℕ). field_part k w (length t) y ∷ parts_at ks w y) there
+    ∙ ap (λ (y : Part). y ∷ parts_at ks w (length (t ++ o))) one.1
+    ∙ ap (λ (ys : List Part). x ∷ ys) same in
     subst (λ (y : ℕ). Again (k ∷ ks) (field_part k m p y ∷ parts_at ks m y) t) (sym stops) ((length (t ++ o), one.0, after), parts)
 
 pub data_again : (ks : List FieldKind) (m : List ℕ) (p : ℕ) → p ≤ length m → AreData ks m p → AreData ks (parts_octets false (parts_at ks m p)) 0

@@ -74,6 +74,20 @@ hands_cmp first second all others n one two few less =
     ∙ ap (λ (l : List ℕ). ordering_then (slice_cmp nat_cmp l (take n others)) (slice_cmp nat_cmp (drop n all) (drop n others))) (take_first first all n one few)
     ∙ ap (λ (l : List ℕ). ordering_then (slice_cmp nat_cmp (take n first) l) (slice_cmp nat_cmp (drop n all) (drop n others))) (take_first second others n two less)
 
+-- so the order of what is left is found
+pub hands_ordered : (first second : OctetReader) (n : ℕ) (order : Ordering) (rest others : List ℕ) → n ≤ length (in_hand first) → n ≤ length (in_hand second)
+    → order ≡ slice_cmp nat_cmp (take n (in_hand first)) (take n (in_hand second)) → rest ≡ drop n (octets_left first) → others ≡ drop n (octets_left second)
+    → slice_cmp nat_cmp (octets_left first) (octets_left second) ≡ ordering_then order (slice_cmp nat_cmp rest others)
+hands_ordered first second n order rest others few less is one two =
+    hands_cmp (in_hand first) (in_hand second) (octets_left first) (octets_left second) n (hand_first first) (hand_first second) few less
+    ∙ ap (λ (o : Ordering). ordering_then o (slice_cmp nat_cmp (drop n (octets_left first)) (drop n (octets_left second)))) (sym is)
+    ∙ ap (λ (l : List ℕ). ordering_then order (slice_cmp nat_cmp l (drop n (octets_left second)))) (sym one)
+    ∙ ap (λ (l : List ℕ). ordering_then order (slice_cmp nat_cmp rest l)) (sym two)
+
+pub fewer_left : (it : OctetReader) (n : ℕ) (rest : List ℕ) → 0 < n → n ≤ length (in_hand it) → rest ≡ drop n (octets_left it) → length rest < length (octets_left it)
+fewer_left it n rest some few is =
+    omega (arith, ap (λ (l : List ℕ). length l) is, length-drop n (octets_left it), longer_first (in_hand it) (octets_left it) (hand_first it), some, few)
+
 pub differ_first : (o r : Ordering) → (o ≡ Equal → ⊥) → ordering_then o r ≡ o
 differ_first Less r differs = refl
 differ_first Equal r differs = absurd (differs refl)

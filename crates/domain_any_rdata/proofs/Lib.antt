@@ -7,3 +7,6 @@ pub mod Same
 pub mod Back
 pub mod Cutting
 pub mod Owning
+pub mod Viewing
+pub mod Internet
+pub mod Keyed

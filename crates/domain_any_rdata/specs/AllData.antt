@@ -8,16 +8,19 @@ use Rattle.domain_fields.specs.Parts.{Part, parts_octets}
 use Rattle.domain_any_rdata.specs.Parts.{rdata_parts}
 use Rattle.domain_any_rdata.specs.declared.all.AllRecordData.{AllRecordData}
 
--- the data as `domain_descriptor` has it, its type, its class, and its fields as parts
+-- the data as `domain_descriptor` has it
 abbrev pub data_of : AllRecordData → Rdata
 data_of it = it.rdata
 
+-- the type of the record
 abbrev pub data_type : AllRecordData → ℕ
 data_type it = rdata_type it.rdata
 
+-- the class of the record
 abbrev pub data_class : AllRecordData → ℕ
 data_class it = rdata_class it.rdata
 
+-- its fields as parts, in their order
 abbrev pub data_parts : AllRecordData → List Part
 data_parts it = rdata_parts it.rdata
 
@@ -29,14 +32,15 @@ IsAllData rtype class m p it = IsRdata rtype class m p it.rdata
 abbrev pub are_fields_known : ℕ → ℕ → Bool
 are_fields_known rtype class = is_some (fields_in_class rtype class)
 
+-- whether it is known of this data
 abbrev pub is_known_data : AllRecordData → Bool
 is_known_data it = are_fields_known (data_type it) (data_class it)
 
--- the octets with all names in lowercase, where it is known which are names
+-- the octets with all names in lowercase, if it is known which octets are names
 abbrev pub known_form : AllRecordData → Option (List ℕ)
 known_form it = if is_known_data it then Some (parts_octets true (data_parts it)) else None
 
--- whether the names are in lowercase in the canonical form (RFC 4034, 6.2; RFC 6840, 5.1)
+-- whether the canonical form has names in lowercase (RFC 4034, 6.2; RFC 6840, 5.1)
 abbrev pub has_lowered_names : AllRecordData → Bool
 has_lowered_names it = is_known_data it && has_lowercase_names (data_type it)
 

@@ -35,7 +35,7 @@ abbrev pub parts_written : List Part → NameForm → Writing
 parts_written [] how = λ _ _ _ old new. new ≡ old
 parts_written (x ∷ xs) how = λ T extends named. BothWritten (part_written x how T extends named) (parts_written xs how T extends named)
 
--- the form of names in data of a type, where they may be compressed or not (RFC 3597, 4)
+-- the form of names in data: of a type whose names may be compressed, or of another (RFC 3597, 4)
 abbrev pub composed_form : Bool → NameForm
 composed_form compressed = if compressed then Compressed else Whole false
 

@@ -8,10 +8,11 @@ use Rattle.domain_label.specs.Lowercase.{as_writes}
 use Rattle.domain_any_rdata.specs.AllData.{data_type, data_class, canonical_octets}
 use Rattle.domain_any_rdata.specs.declared.all.AllRecordData.{AllRecordData}
 
+-- what data is compared by: type, class, and the octets of the canonical form
 abbrev pub data_key : AllRecordData → List ℕ
 data_key it = data_type it ∷ data_class it ∷ canonical_octets it
 
--- what these write to a hasher: type and class as a `u16`, and each octet as a `u8`
+-- what these write to a hasher: type and class as a `u16` each, and each octet as a `u8`
 abbrev pub key_writes : List ℕ → fed.HashWrites
 key_writes [] = []
 key_writes (t ∷ []) = fed.u16 t

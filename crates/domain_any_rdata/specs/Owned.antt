@@ -8,15 +8,19 @@ use Rattle.domain_any_rdata.specs.Parts.{parts_at}
 use Rattle.domain_any_rdata.specs.declared.all.AllRecordData.{AllRecordData}
 use Rattle.domain_any_rdata.specs.declared.owned.OwnedRecordData.{OwnedRecordData}
 
+-- the type of the record
 abbrev pub owned_type : OwnedRecordData → ℕ
 owned_type it = it.rtype
 
+-- the class of the record
 abbrev pub owned_class : OwnedRecordData → ℕ
 owned_class it = it.class
 
+-- the octets, in which no name is compressed
 abbrev pub owned_octets : OwnedRecordData → List ℕ
 owned_octets it = it.octets.items
 
+-- its fields as parts, in their order
 abbrev pub owned_parts : OwnedRecordData → List Part
 owned_parts it = parts_at (known_fields it.rtype it.class) it.octets.items 0
 
@@ -28,10 +32,11 @@ pub record IsOwnedOf (it : AllRecordData) (made : OwnedRecordData) : Type 0 wher
   pub octets : owned_octets made ≡ parts_octets false (data_parts it)
   pub parts : owned_parts made ≡ data_parts it
 
--- the octets with all names in lowercase, where it is known which are names; and what it is compared by
+-- the octets with all names in lowercase, if it is known which octets are names
 abbrev pub owned_form : OwnedRecordData → Option (List ℕ)
 owned_form it = if are_fields_known (owned_type it) (owned_class it) then Some (parts_octets true (owned_parts it)) else None
 
+-- what it is compared by: type, class, and the octets of the canonical form
 abbrev pub owned_key : OwnedRecordData → List ℕ
 owned_key it =
     owned_type it ∷ owned_class it

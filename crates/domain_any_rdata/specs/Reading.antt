@@ -25,10 +25,11 @@ abbrev pub NoDataAt : ℕ → ℕ → List ℕ → ℕ → ParseError → Type 0
 NoDataAt rtype class m p why =
     (fault : DataFault) × AreNoData (known_fields rtype class) m p fault × (refusal why ≡ error_of_data fault)
 
--- The same where a record could have it, of at most 65,535 octets, in class IN.
+-- Such data in class IN, of at most 65,535 octets: a record can have no more.
 abbrev pub InternetDataAt : ℕ → List ℕ → ℕ → List Part → ℕ → Type 0
 InternetDataAt rtype m p parts e = DataAt rtype 1 m p parts e × (length (drop p m) ≤ 65535)
 
+-- There is none, and why: more than 65,535 octets are left, or they aren't the fields of the type.
 abbrev pub NoInternetData : ℕ → List ℕ → ℕ → ParseError → Type 0
 NoInternetData rtype m p why =
     ((65535 < length (drop p m)) × (refusal why ≡ form (codes "record data too long")))

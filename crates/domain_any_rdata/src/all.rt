@@ -28,7 +28,7 @@ pub struct AllRecordData<'m> {
 }
 
 impl<'m> AllRecordData<'m> {
-    ghost use Rattle.domain_any_rdata.specs.AllData.{IsAllData, data_of, data_type, data_class, is_known_data};
+    ghost use Rattle.domain_any_rdata.specs.AllData.{IsAllData, data_of, data_type, data_class, is_known_data, has_lowered_names};
 
     /// The data of this type in this class that the octets from `begin` to the end of the message are (RFC 1035,
     /// 3.2.1).
@@ -93,6 +93,14 @@ impl<'m> AllRecordData<'m> {
     {
         fields_of(self.rdata.rtype(), self.rdata.class()).is_some()
     }
+
+    /// Whether the canonical form has names in lowercase (RFC 4034, 6.2; RFC 6840, 5.1): those of a type that isn't
+    /// known in this class are octets like others.
+    pub(crate) fn lowers_names(&self) -> bool
+        ensures { result ≡ has_lowered_names self.now }
+    {
+        self.is_known() && self.rtype().has_lowercase_names()
+    }
 }
 
 /// The number of the type that the record has.
@@ -142,8 +150,7 @@ impl<'m> ComposeRecordData for AllRecordData<'m> {
         &self,
         target: &mut Target,
     ) -> Result<(), Target::AppendError> {
-        let lowercase = self.is_known() && self.rtype().has_lowercase_names();
-        compose_fields(&self.rdata, NameForm::Whole(lowercase), target)
+        compose_fields(&self.rdata, NameForm::Whole(self.lowers_names()), target)
     }
 
     ghost plain = { λ it c t. type_plain (compresses_names (data_type it)) (data_parts it) c t it.named };

@@ -1,5 +1,5 @@
 //! How many octets record data has with no name compressed.
-ghost use Rattle.std.specs.Prelude.{◌≡◌, ◌<◌, length, false, IfSome, IfNone};
+ghost use Rattle.std.specs.Prelude.{◌≡◌, ◌<◌, ◌↔◌, length, false, IfSome, IsNone};
 ghost use Rattle.domain_fields.specs.Parts.{part_octets, parts_octets};
 ghost use Rattle.domain_any_rdata.specs.Parts.{part_of, rdata_parts};
 
@@ -19,7 +19,8 @@ fn field_len(field: &Field<'_>) -> usize
 /// How many octets data has with no name compressed. `None` exactly where there are more than 65,535.
 pub(crate) fn uncompressed_len(rdata: &Rdata<'_>) -> Option<u16>
     ensures some { IfSome result (λ n. length (parts_octets false (rdata_parts rdata.now)) ≡ n) }
-    ensures none { IfNone result (65535 < length (parts_octets false (rdata_parts rdata.now))) }
+    ensures none { IsNone result
+        ↔ (65535 < length (parts_octets false (rdata_parts rdata.now))) }
 {
     let mut len: usize = 0;
     let mut fields = rdata.fields();
@@ -33,17 +34,4 @@ pub(crate) fn uncompressed_len(rdata: &Rdata<'_>) -> Option<u16>
         len = sum;
     }
     Some(len as u16)
-}
-
-/// How many octets data has with no name compressed. No limit holds: each of fewer than 2 ^ 64 fields has fewer than
-/// 2 ^ 64 octets.
-pub(crate) fn whole_len(rdata: &Rdata<'_>) -> u128
-    ensures { result ≡ length (parts_octets false (rdata_parts rdata.now)) }
-{
-    let mut len: u128 = 0;
-    let mut fields = rdata.fields();
-    'field: while let Some(field) = fields.next() {
-        len += field_len(&field) as u128;
-    }
-    len
 }

@@ -1,4 +1,4 @@
-//! Record data of any type by one table: read from a message, composed, compared, owned and shown (RFC 1035, 3.2.1).
+//! Record data of any type by one table: read from a message, composed, compared and owned (RFC 1035, 3.2.1).
 #![tactic(auto)]
 
 pub mod all;
@@ -16,3 +16,5 @@ pub use all::AllRecordData;
 pub use name_form::NameForm;
 pub use owned::OwnedRecordData;
 
+#[cfg(test)]
+mod tests;

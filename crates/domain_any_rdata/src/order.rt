@@ -6,8 +6,6 @@ ghost use Rattle.std.specs.Cmp.{on_total};
 ghost use Rattle.std.specs.Cmp.Lexicographic.{pointwise, slice_cmp, nat_list_cmp_total};
 ghost use Rattle.std.specs.Cmp.Rules.{comparing};
 ghost use Rattle.std.specs.Ordering.{nat_cmp, on};
-ghost use Rattle.std.specs.Prelude.{false};
-ghost use Rattle.domain_fields.specs.Parts.{parts_octets};
 ghost use Rattle.domain_any_rdata.specs.Keys.{data_key, key_writes, same_key_writes};
 
 use crate::all::AllRecordData;
@@ -19,22 +17,14 @@ use std::cmp::Ordering;
 use std::hash::{Hash, Hasher};
 
 impl<'m> AllRecordData<'m> {
-    ghost use Rattle.domain_any_rdata.specs.AllData.{data_type, data_class, data_parts, has_lowered_names, canonical_octets};
+    ghost use Rattle.domain_any_rdata.specs.AllData.{canonical_octets};
     ghost use Rattle.domain_any_rdata.specs.Readers.{octets_left};
 
     /// The octets of the canonical form.
     fn canonical(&self) -> OctetReader<'m>
         ensures { octets_left result ≡ canonical_octets self.now }
     {
-        let lowercase = self.is_known() && self.rtype().has_lowercase_names();
-        OctetReader::new(&self.rdata(), lowercase)
-    }
-
-    /// The octets, names with their case.
-    pub(crate) fn octets(&self) -> OctetReader<'m>
-        ensures { octets_left result ≡ parts_octets false (data_parts self.now) }
-    {
-        OctetReader::new(&self.rdata(), false)
+        OctetReader::new(&self.rdata(), self.lowers_names())
     }
 
     /// The order of type, class and canonical form.

@@ -19,8 +19,7 @@ pub struct OwnedRecordData {
     class: u16,
     octets: Vec<u8>,
     ghost certain: { CantBeOthers (known_fields rtype class) octets.items 0 },
-    ghost named: { AreNamed (parts_at (known_fields rtype class) octets.items 0) }
-        by { AreNamed_prop (parts_at (known_fields rtype class) octets.items 0) },
+    ghost named: { AreNamed (parts_at (known_fields rtype class) octets.items 0) } by { AreNamed_prop (parts_at (known_fields rtype class) octets.items 0) },
 }
 
 impl OwnedRecordData {

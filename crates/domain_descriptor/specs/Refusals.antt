@@ -1,10 +1,11 @@
--- The error that each fault of data becomes: the texts are those that the types' own readers have.
+-- Faults of data as errors of parsing. The texts are those that the types' own readers have.
 use Rattle.std.specs.Prelude.{codes}
 use Rattle.domain_wire.specs.Refusals.{Refusal, short_input, form}
 use Rattle.domain_reading.specs.Faults.{error_of}
 use Rattle.domain_descriptor.specs.declared.fault.DataFault.{DataFault}
 use Rattle.domain_descriptor.specs.declared.fault.DataFault.TheVariants as faults
 
+-- the error that a fault of data becomes
 abbrev pub error_of_data : DataFault → Refusal
 error_of_data faults.ShortInput = short_input
 error_of_data (faults.Name fault) = error_of fault

@@ -1,0 +1,25 @@
+-- Data of class IN where a parser stands.
+use Rattle.std.proofs.Common.{◌≡◌, ℕ, ◌≤◌, List, length, drop, inr, subst}
+use Rattle.domain_wire.specs.Refusals.{refusal}
+use Rattle.domain_wire.specs.declared.error.ParseError.{ParseError}
+use Rattle.domain_descriptor.specs.Fields.{AreData, AreNoData}
+use Rattle.domain_descriptor.specs.Rdatas.{IsRdata}
+use Rattle.domain_descriptor.specs.Refusals.{error_of_data}
+use Rattle.domain_descriptor.specs.Table.{known_fields}
+use Rattle.domain_descriptor.specs.declared.fault.DataFault.{DataFault}
+use Rattle.domain_descriptor.specs.declared.rdata.Rdata.{Rdata}
+use Rattle.domain_any_rdata.proofs.Named.{parts_of_data}
+use Rattle.domain_any_rdata.specs.Parts.{rdata_parts}
+use Rattle.domain_any_rdata.specs.Reading.{InternetDataAt, NoInternetData}
+
+pub data_there : (t k : ℕ) (m : List ℕ) (p : ℕ) (it : Rdata) (e : ℕ) → k ≡ 1 → p ≤ length m → length (drop p m) ≤ 65535
+    → IsRdata t k m p it → AreData (known_fields t k) m p → e ≡ length m → InternetDataAt t m p (rdata_parts it) e
+data_there t k m p it e one inside few is are ends =
+    let here : IsRdata t 1 m p it = subst (λ (x : ℕ). IsRdata t x m p it) one is in
+    let all : AreData (known_fields t 1) m p = subst (λ (x : ℕ). AreData (known_fields t x) m p) one are in
+    (record { inside = inside; are = all; says = parts_of_data t 1 m p it here; ends = ends }, few)
+
+pub none_there : (t k : ℕ) (m : List ℕ) (p : ℕ) (fault : DataFault) (why : ParseError) → k ≡ 1 → p ≤ length m → length (drop p m) ≤ 65535
+    → AreNoData (known_fields t k) m p fault → refusal why ≡ error_of_data fault → NoInternetData t m p why
+none_there t k m p fault why one inside few none told =
+    inr (inside, few, (fault, subst (λ (x : ℕ). AreNoData (known_fields t x) m p fault) one none, told))

@@ -1,0 +1,136 @@
+//! Data of a few types, read, composed, compared and owned.
+use crate::{AllRecordData, OwnedRecordData};
+use domain_descriptor::DataFault;
+use domain_header::Class;
+use domain_rdata::{
+    CanonicalRecordData, ComposeRecordData, ParseAnyRecordData, ParseRecordData, RecordData, Rtype,
+};
+use domain_traits::FlattenInto;
+use domain_wire::CanonicalOrd;
+use octseq::{OctetsFrom, Parser};
+use std::cmp::Ordering;
+use std::hash::{DefaultHasher, Hash, Hasher};
+
+/// The data of this type in class IN that the octets from an offset on are.
+fn read(rtype: u16, message: &[u8], begin: usize) -> Option<AllRecordData<'_>> {
+    if begin > message.len() {
+        return None;
+    }
+    AllRecordData::parse(Rtype::from_int(rtype), Class::from_int(1), message, begin).ok()
+}
+
+/// What data writes to a hasher, as one number.
+fn hash_of<D: Hash>(data: &D) -> u64 {
+    let mut hasher = DefaultHasher::new();
+    data.hash(&mut hasher);
+    hasher.finish()
+}
+
+/// Data of MX (RFC 1035, 3.3.9) is composed as it was read. Its name is equal, ignoring ASCII case.
+#[test]
+fn mail_exchange(rt: HostRuntime) {
+    let message = b"\x00\x0a\x04mail\x07example\x03com\x00";
+    let upper = b"\x00\x0a\x04MAIL\x07example\x03Com\x00";
+    let (Some(data), Some(other)) = (read(15, message, 0), read(15, upper, 0)) else {
+        return assert!(rt; false);
+    };
+    let mut octets = Vec::new(rt.alloc());
+    assert!(rt; other.compose_rdata(&mut octets).is_ok());
+    assert!(rt; octets.as_slice() == upper.as_slice());
+    let mut octets = Vec::new(rt.alloc());
+    assert!(rt; other.compose_canonical_rdata(&mut octets).is_ok());
+    assert!(rt; octets.as_slice() == message.as_slice());
+    assert_eq!(rt; data.rdlen(false), Some(20));
+    assert_eq!(rt; data.rdlen(true), None);
+    assert!(rt; data.knows_names());
+    assert!(rt; data == other);
+    assert!(rt; data.canonical_cmp(&other) == Ordering::Equal);
+    assert_eq!(rt; hash_of(&data), hash_of(&other));
+}
+
+/// A name that ends in a pointer is made uncompressed, and keeps its case.
+#[test]
+fn owning(rt: HostRuntime) {
+    let message = b"\x03Com\x00\x00\x0a\x04mail\xc0\x00";
+    let Some(data) = read(15, message, 5) else {
+        return assert!(rt; false);
+    };
+    let made: Result<OwnedRecordData, _> = data.flatten_into(rt.alloc());
+    let Ok(owned) = made else {
+        return assert!(rt; false);
+    };
+    assert!(rt; owned.as_slice() == b"\x00\x0a\x04mail\x03Com\x00".as_slice());
+    assert!(rt; owned.as_data() == data);
+    assert_eq!(rt; hash_of(&owned), hash_of(&data));
+    let Ok(again) = OwnedRecordData::try_octets_from(rt.alloc(), data) else {
+        return assert!(rt; false);
+    };
+    assert!(rt; owned == again);
+    assert!(rt; owned.canonical_cmp(&again) == Ordering::Equal);
+    assert_eq!(rt; owned.rtype().to_int(), 15);
+    assert_eq!(rt; owned.rdlen(false), Some(12));
+    let mut octets = Vec::new(rt.alloc());
+    assert!(rt; owned.compose_canonical_rdata(&mut octets).is_ok());
+    assert!(rt; octets.as_slice() == b"\x00\x0a\x04mail\x03com\x00".as_slice());
+    assert!(rt; owned.knows_names());
+}
+
+/// Names of SVCB keep their case in the canonical form, so such data is unequal (RFC 3597, 6).
+#[test]
+fn service_binding(rt: HostRuntime) {
+    let (Some(lower), Some(upper)) = (
+        read(64, b"\x00\x01\x01a\x00", 0),
+        read(64, b"\x00\x01\x01A\x00", 0),
+    ) else {
+        return assert!(rt; false);
+    };
+    assert!(rt; lower != upper);
+    assert!(rt; lower.canonical_cmp(&upper) == Ordering::Greater);
+    assert_eq!(rt; lower.rdlen(true), Some(5));
+}
+
+/// The class tells which fields data of A has (RFC 1035, 3.4.1).
+#[test]
+fn classes(rt: HostRuntime) {
+    let a = Rtype::from_int(1);
+    let long = [192, 0, 2, 1, 0];
+    let fault = AllRecordData::parse(a, Class::from_int(1), &long, 0).err();
+    assert_eq!(rt; fault, Some(DataFault::TrailingData));
+    let Ok(chaos) = AllRecordData::parse(a, Class::from_int(3), &long, 0) else {
+        return assert!(rt; false);
+    };
+    assert!(rt; !chaos.is_known());
+    assert_eq!(rt; chaos.class().to_int(), 3);
+    let (Ok(first), Some(second)) = (
+        AllRecordData::parse(a, Class::from_int(3), &long[..4], 0),
+        read(1, &long[..4], 0),
+    ) else {
+        return assert!(rt; false);
+    };
+    assert!(rt; first != second);
+    assert!(rt; first.canonical_cmp(&second) == Ordering::Greater);
+}
+
+/// Octets of a type that isn't known are one field.
+#[test]
+fn unknown(rt: HostRuntime) {
+    let octets = [1, 0xab];
+    let mut parser = Parser::from_ref(&octets);
+    let Ok(data) = AllRecordData::parse_any_rdata(Rtype::from_int(65280), &mut parser) else {
+        return assert!(rt; false);
+    };
+    assert_eq!(rt; parser.remaining(), 0);
+    assert_eq!(rt; data.rtype().to_int(), 65280);
+    assert!(rt; !data.is_known());
+    assert!(rt; data.knows_names());
+    assert_eq!(rt; data.rdlen(true), Some(2));
+    let mut fields = data.rdata().fields();
+    let Some(field) = fields.next() else {
+        return assert!(rt; false);
+    };
+    assert!(rt; field.octets() == octets.as_slice());
+    assert!(rt; fields.next().is_none());
+    let mut parser = Parser::from_ref(&octets);
+    let read = AllRecordData::parse_rdata(Rtype::from_int(65280), &mut parser);
+    assert!(rt; matches!(read, Ok(Some(again)) if again == data));
+}
