@@ -1,4 +1,5 @@
--- One part more is composed. What is known at each turn is said of what is left: whatever completes that completes all.
+-- One part more is composed. What is known at each turn is said of what is left: whatever completes that completes
+-- all.
 use Rattle.std.proofs.Common.{◌≡◌, ◌∙◌, ℕ, ◌+◌, ◌≤◌, ◌<◌, Bool, List, [], ◌∷◌, ◌++◌, length, take, refl, sym, ap, subst, append_assoc, append-nil, length-append, arith}
 use Rattle.domain_rdata.specs.ReadBack.{Appended}
 use Rattle.domain_fields.specs.Parts.{Part, part_octets, parts_octets}

@@ -1,5 +1,6 @@
 -- What is composed: in the form of the type, in the canonical form (RFC 4034, 6.2), and of which length.
-use Rattle.std.proofs.Common.{◌≡◌, ◌∙◌, ℕ, ◌+◌, ◌<◌, Bool, true, false, not, ◌&&◌, ◌||◌, if◌then◌else◌, Option, None, Some, IfSome, Result, OnOk, OnErr, List, ◌++◌, length, refl, sym, ap, subst}
+use Rattle.std.proofs.Common.{◌≡◌, ◌∙◌, ℕ, ◌+◌, ◌<◌, Bool, true, false, not, ◌&&◌, ◌||◌, if◌then◌else◌, Option, None, Some, IfSome, Result, OnOk, OnErr, IsNone, ◌↔◌, nat_le, List, ◌++◌, length, refl, sym, ap, subst, arith}
+use Rattle.std.proofs.lemmas.Bool.Decides.{nat_tests}
 use Rattle.std.proofs.lemmas.Result.{on_ok_weaker}
 use Rattle.domain_rdata.specs.Canonical.{lowercase_where_known, canonical_form, names_known}
 use Rattle.domain_rdata.specs.ReadBack.{Appended}
@@ -65,6 +66,21 @@ pub all_sized : (compress compressed : Bool) (xs : List Part) (told : Option ℕ
     → IfSome told (λ n. (t s : List ℕ) → PartsComposed xs (composed_form compressed) compress t s → length s ≡ n)
 all_sized compress compressed xs None other flat = tt
 all_sized compress compressed xs (Some n) other flat = one_size compress compressed xs n other flat
+
+-- a length is known of at most 65,535 octets
+many_test : (n : ℕ) → 65535 < n → nat_le n 65535 ≡ false
+many_test n many = grind (arith, nat_tests)
+
+test_many : (n : ℕ) → nat_le n 65535 ≡ false → 65535 < n
+test_many n no = grind (arith, nat_tests)
+
+few_known : (n : ℕ) (told : Option ℕ) → (IsNone told ↔ (65535 < n)) → IsNone told ↔ (nat_le n 65535 ≡ false)
+few_known n told by = (λ none. many_test n (by.0 none), λ no. by.1 (test_many n no))
+
+pub len_known : (compress compressed : Bool) (n : ℕ) (told : Option ℕ) → (compress && compressed) ≡ false → (IsNone told ↔ (65535 < n))
+    → IsNone told ↔ ((not (compress && compressed) && nat_le n 65535) ≡ false)
+len_known compress compressed n told other by =
+    subst (λ (b : Bool). IsNone told ↔ ((not b && nat_le n 65535) ≡ false)) (sym other) (few_known n told by)
 
 -- ---- the form of the type
 pub form_lowers : (compressed : Bool) → lowers (composed_form compressed) ≡ false

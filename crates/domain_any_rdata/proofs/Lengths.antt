@@ -16,7 +16,7 @@ parts_size lowercase [] = refl
 parts_size lowercase (x ∷ xs) =
     omega (arith, part_size lowercase x, parts_size lowercase xs, length-append (part_octets lowercase x) (parts_octets lowercase xs), length-append (part_octets false x) (parts_octets false xs))
 
--- the invariant of `uncompressed_len`: `len + length (parts_octets false left) ≡ length (parts_octets false all)`, `len ≤ 65535`
+-- the invariant of `uncompressed_len`
 pub part_less : (all left rest : List Part) (x : Part) (len sum n : ℕ) → left ≡ x ∷ rest → len + length (parts_octets false left) ≡ length (parts_octets false all) → n ≡ length (part_octets false x) → sum ≡ len + n
     → sum + length (parts_octets false rest) ≡ length (parts_octets false all)
 part_less all left rest x len sum n first before is added =

@@ -25,13 +25,11 @@ pub(crate) fn uncompressed_len(rdata: &Rdata<'_>) -> Option<u16>
     let mut len: usize = 0;
     let mut fields = rdata.fields();
     'field: while let Some(field) = fields.next() {
-        let Some(sum) = len.checked_add(field_len(&field)) else {
-            return None;
-        };
-        if sum > 65535 {
+        let n = field_len(&field);
+        if n > 65535 - len {
             return None;
         }
-        len = sum;
+        len += n;
     }
     Some(len as u16)
 }

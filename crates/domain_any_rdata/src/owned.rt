@@ -7,7 +7,6 @@ ghost use Rattle.domain_any_rdata.specs.Parts.{AreNamed, AreNamed_prop, CantBeOt
 use crate::all::AllRecordData;
 use crate::compose::compose_fields;
 use crate::name_form::NameForm;
-use domain_rdata::RecordData;
 use domain_traits::FlattenInto;
 use octseq::{OctetsFrom, ShortBuf};
 use std::alloc::Global;
@@ -23,8 +22,21 @@ pub struct OwnedRecordData {
 }
 
 impl OwnedRecordData {
-    ghost use Rattle.domain_any_rdata.specs.AllData.{IsAllData};
-    ghost use Rattle.domain_any_rdata.specs.Owned.{owned_type, owned_class, owned_octets};
+    ghost use Rattle.domain_any_rdata.specs.AllData.{IsAllData, data_parts};
+    ghost use Rattle.domain_any_rdata.specs.Owned.{owned_type, owned_class, owned_octets, IsOwnedOf};
+
+    /// The same data over these octets, which are its fields with no name compressed.
+    fn of_flat(data: &AllRecordData<'_>, octets: Vec<u8>) -> OwnedRecordData
+        requires { octets.items ≡ parts_octets false (data_parts data.now) }
+        ensures { IsOwnedOf data.now result }
+    {
+        let rdata = data.rdata();
+        OwnedRecordData {
+            rtype: rdata.rtype(),
+            class: rdata.class(),
+            octets,
+        }
+    }
 
     /// The octets.
     pub fn as_slice(&self) -> &[u8]
@@ -53,11 +65,7 @@ impl<'m> FlattenInto<OwnedRecordData> for AllRecordData<'m> {
     fn try_flatten_into(self, alloc: Global) -> Result<OwnedRecordData, ShortBuf> {
         let mut octets = Vec::new(alloc);
         compose_fields(&self.rdata(), NameForm::Whole(false), &mut octets)?;
-        Ok(OwnedRecordData {
-            rtype: self.rdata().rtype(),
-            class: self.rdata().class(),
-            octets,
-        })
+        Ok(OwnedRecordData::of_flat(&self, octets))
     }
 
     fn flatten_into(self, alloc: Global) -> Result<OwnedRecordData, ShortBuf> {

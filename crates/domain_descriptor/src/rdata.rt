@@ -68,12 +68,13 @@ impl<'m> Rdata<'m> {
         requires whole { (why : DataFault) → AreNoData (known_fields rtype class) message.now begin why → ⊥ }
         ensures { IsRdata rtype class message.now begin result }
     {
+        let kinds = known_fields(rtype, class);
         Rdata {
             rtype,
             class,
             message,
             begin,
-            kinds: known_fields(rtype, class),
+            kinds,
         }
     }
 
