@@ -1,5 +1,6 @@
 -- What is composed: in the form of the type, in the canonical form (RFC 4034, 6.2), and of which length.
 use Rattle.std.proofs.Common.{◌≡◌, ◌∙◌, ℕ, ◌+◌, ◌<◌, Bool, true, false, not, ◌&&◌, ◌||◌, if◌then◌else◌, Option, None, Some, IfSome, Result, OnOk, OnErr, IsNone, ◌↔◌, nat_le, List, ◌++◌, length, refl, sym, ap, subst, arith}
+use Rattle.std.proofs.lemmas.Bool.{false≢true}
 use Rattle.std.proofs.lemmas.Bool.Decides.{nat_tests}
 use Rattle.std.proofs.lemmas.Result.{on_ok_weaker}
 use Rattle.domain_rdata.specs.Canonical.{lowercase_where_known, canonical_form, names_known}
@@ -57,7 +58,7 @@ form_size t known compress xs told flat no =
 
 one_size : (compress compressed : Bool) (xs : List Part) (n : ℕ) → (compress && compressed) ≡ false → length (parts_octets false xs) ≡ n
     → (t s : List ℕ) → PartsComposed xs (composed_form compressed) compress t s → length s ≡ n
-one_size true true xs n other flat t s may = absurd (cc)
+one_size true true xs n other flat t s may = absurd (false≢true (sym other))
 one_size false true xs n other flat t s may = ap (λ (o : List ℕ). length o) (parts_flat xs t s may) ∙ flat
 one_size true false xs n other flat t s may = ap (λ (o : List ℕ). length o) (parts_whole xs false true t s may) ∙ flat
 one_size false false xs n other flat t s may = ap (λ (o : List ℕ). length o) (parts_whole xs false false t s may) ∙ flat

@@ -1,5 +1,6 @@
 -- Data is compared by its type, then by its class, and then by its octets.
 use Rattle.std.proofs.Common.{◌≡◌, ◌∙◌, Bool, true, false, List, ℕ, ◌++◌, fold, refl, sym, ap}
+use Rattle.std.proofs.lemmas.Bool.{false≢true}
 use Rattle.std.specs.Ordering.{is_ne, ordering_then}
 use Rattle.std.specs.declared.cmp.Ordering.{Ordering}
 use Rattle.std.specs.declared.cmp.Ordering.TheVariants.{Less, Equal, Greater}
@@ -10,14 +11,14 @@ use Rattle.domain_label.specs.Lowercase.{as_writes}
 use Rattle.domain_any_rdata.proofs.Cutting.{same_first}
 
 pub is_equal : (o : Ordering) → is_ne o ≡ false → o ≡ Equal
-is_equal Less same = absurd (cc)
+is_equal Less same = absurd (false≢true (sym same))
 is_equal Equal same = refl
-is_equal Greater same = absurd (cc)
+is_equal Greater same = absurd (false≢true (sym same))
 
 -- the first that differ decide
 pub decided : (o p r : Ordering) → o ≡ p → is_ne o ≡ true → o ≡ ordering_then p r
 decided Less p r is differ = ap (λ (x : Ordering). ordering_then x r) is
-decided Equal p r is differ = absurd (cc)
+decided Equal p r is differ = absurd (false≢true differ)
 decided Greater p r is differ = ap (λ (x : Ordering). ordering_then x r) is
 
 -- those that are the same leave it to the next

@@ -1,5 +1,5 @@
 -- The length of the octets.
-use Rattle.std.proofs.Common.{◌≡◌, ◌∙◌, ℕ, ◌+◌, ◌≤◌, ◌<◌, Bool, true, false, List, [], ◌∷◌, ◌++◌, length, Option, None, Some, IfSome, refl, sym, ap, subst, length-append, arith}
+use Rattle.std.proofs.Common.{◌≡◌, ◌∙◌, ℕ, ◌+◌, ◌-◌, ◌<◌, Bool, true, false, List, [], ◌∷◌, ◌++◌, length, Option, None, Some, IfSome, refl, sym, ap, subst, length-append, arith}
 use Rattle.domain_label.proofs.CanonicalForm.{lowercase_size}
 use Rattle.domain_label.specs.Wire.{wire}
 use Rattle.domain_fields.specs.Cases.{cased_labels}
@@ -21,3 +21,11 @@ pub part_less : (all left rest : List Part) (x : Part) (len sum n : ℕ) → lef
     → sum + length (parts_octets false rest) ≡ length (parts_octets false all)
 part_less all left rest x len sum n first before is added =
     omega (arith, ap (λ xs. length (parts_octets false xs)) first, before, is, added, length-append (part_octets false x) (parts_octets false rest))
+
+pub too_many : (all left rest : List Part) (x : Part) (len n : ℕ) → left ≡ x ∷ rest → len + length (parts_octets false left) ≡ length (parts_octets false all) → n ≡ length (part_octets false x) → 65535 - len < n
+    → 65535 < length (parts_octets false all)
+too_many all left rest x len n first before is many =
+    omega (arith, ap (λ xs. length (parts_octets false xs)) first, before, is, many, length-append (part_octets false x) (parts_octets false rest))
+
+pub all_counted : (all left : List Part) (len : ℕ) → left ≡ [] → len + length (parts_octets false left) ≡ length (parts_octets false all) → length (parts_octets false all) ≡ len
+all_counted all left len none sum = omega (arith, ap (λ (xs : List Part). length (parts_octets false xs)) none, sum)

@@ -9,6 +9,6 @@ of_whole-requires c =
     let kinds = known_fields it.rtype it.class in
     record {
       inside = omega arith;
-      certain = subst (λ (m : List ℕ). CantBeOthers kinds m 0) (sym c.as_slice.ensures) it.certain;
-      named = subst (λ (m : List ℕ). AreNamed (parts_at kinds m 0)) (sym c.as_slice.ensures) it.named;
+      certain = subst (λ (m : List ℕ). CantBeOthers kinds m 0) (sym c.as_slice.ensures.value) it.certain;
+      named = subst (λ (m : List ℕ). AreNamed (parts_at kinds m 0)) (sym c.as_slice.ensures.value) it.named;
     }
