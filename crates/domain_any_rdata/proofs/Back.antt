@@ -30,7 +30,7 @@ empty_range : (m : List ℕ) (p q : ℕ) → q ≤ p → slice_range m p q ≡ [
 empty_range m p q less = let none : q - p ≡ 0 = omega (arith, less) in ap (λ (n : ℕ). take n (drop p m)) none
 
 -- a form is that of names, or it isn't
-names_or_others : (it : FieldForm) → (it ≡ forms.Name) ⊎ (it ≡ forms.Name → ⊥)
+pub names_or_others : (it : FieldForm) → (it ≡ forms.Name) ⊎ (it ≡ forms.Name → ⊥)
 names_or_others (forms.Fixed n) = inr (λ e. cc)
 names_or_others forms.Name = inl refl
 names_or_others forms.Counted = inr (λ e. cc)
@@ -52,7 +52,7 @@ none_here it m p e end less at (inl name) =
 none_here it m p e end less at (inr other) = ap (part_octets false) (form_octets it m p e other) ∙ empty_range m p e less
 
 -- those of fields
-nothing_left : (kinds : List FieldKind) (m : List ℕ) (p e : ℕ) → p ≡ length m → FieldsAt kinds m p e → parts_octets false (parts_at kinds m p) ≡ []
+pub nothing_left : (kinds : List FieldKind) (m : List ℕ) (p e : ℕ) → p ≡ length m → FieldsAt kinds m p e → parts_octets false (parts_at kinds m p) ≡ []
 nothing_left [] m p e end at = refl
 nothing_left (k ∷ kinds) m p e end (q, field, rest) =
     let stops = field_stops k m p q field in
@@ -90,7 +90,7 @@ range_length m p q ordered inside = length-take-le (q - p) (drop p m) (omega (ar
 drop_some : (m : List ℕ) (q : ℕ) → drop q m ≡ [] → length m ≤ q
 drop_some m q none = omega (arith, length-drop q m, ap (λ (x : List ℕ). length x) none)
 
-other_stands : (it : FieldForm) (m : List ℕ) (p q : ℕ) (t u : List ℕ) → p ≤ length m → p ≤ q → FormAt it m p q → (it ≡ forms.Name → ⊥)
+pub other_stands : (it : FieldForm) (m : List ℕ) (p q : ℕ) (t u : List ℕ) → p ≤ length m → p ≤ q → FormAt it m p q → (it ≡ forms.Name → ⊥)
     → (q ≡ length m → u ≡ []) → Stands it t (no_name (slice_range m p q)) u
 other_stands it m p q t u begins ordered field other last_too =
     let s = slice_range m p q in

@@ -5,6 +5,7 @@ pub mod Lengths
 pub mod Forms
 pub mod Same
 pub mod Back
+pub mod ReadingBack
 pub mod Cutting
 pub mod Owning
 pub mod Viewing

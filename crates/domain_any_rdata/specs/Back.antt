@@ -1,4 +1,4 @@
--- What is read of data that was composed (RFC 1035, 4.1.4). For `ReadBackData`.
+-- What is read of data that was composed (RFC 1035, 4.1.4).
 use Rattle.std.specs.Prelude.{◌≡◌, ℕ, List, [], ◌∷◌}
 use Rattle.domain_label.specs.Lowercase.{lowercase_labels}
 use Rattle.domain_fields.specs.Parts.{Part, a_name, no_name}
@@ -19,12 +19,14 @@ LikeParts [] (y ∷ ys) = ⊥
 LikeParts (x ∷ xs) [] = ⊥
 LikeParts (x ∷ xs) (y ∷ ys) = LikePart x y × LikeParts xs ys
 
--- what is seen: the class and the parts, since the trait has the type's number alone
-abbrev pub Seen : Type 0
-Seen = ℕ × List Part
+-- what is seen of data: its class and its parts; the type is given
+abbrev pub SeenData : Type 0
+SeenData = ℕ × List Part
 
-abbrev pub SeenAt : ℕ → List ℕ → ℕ → Seen → ℕ → Type 0
+-- Data of the type that is seen so is at p, and ends at e.
+abbrev pub SeenAt : ℕ → List ℕ → ℕ → SeenData → ℕ → Type 0
 SeenAt rtype m p seen e = DataAt rtype seen.0 m p seen.1 e
 
-abbrev pub IsLike : AllRecordData → Seen → Type 0
+-- It has the same class, and its fields are alike.
+abbrev pub IsLike : AllRecordData → SeenData → Type 0
 IsLike it seen = (seen.0 ≡ data_class it) × LikeParts (data_parts it) seen.1

@@ -8,6 +8,7 @@ use Rattle.domain_rdata.specs.OctetsAlone.{WritesComposed, octets_written, name_
 use Rattle.domain_rdata.specs.RecordData.{NameOctets}
 use Rattle.domain_fields.specs.Cases.{cased_labels}
 use Rattle.domain_fields.specs.FieldLaws.{wire_octets, no_longer}
+use Rattle.domain_fields.specs.Moves.{NamesMove, name_moves, both_moves}
 use Rattle.domain_fields.specs.Parts.{Part, a_name, no_name, part_octets, parts_octets}
 use Rattle.domain_fields.specs.Sequences.{BothComposed, BothWritten, both_plain, both_flat, both_written}
 use Rattle.domain_any_rdata.specs.Parts.{IsNamed, AreNamed}
@@ -97,3 +98,14 @@ part_write (no_name octets) how = octets_written octets
 pub parts_write : (xs : List Part) (how : NameForm) → WritesComposed (parts_written xs how) (PartsComposed xs how)
 parts_write [] how = λ compresses t u same. record { octets = []; allowed = refl; all = same ∙ sym (append-nil t) }
 parts_write (x ∷ xs) how = both_written (part_written x how) (parts_written xs how) (PartComposed x how) (PartsComposed xs how) (part_write x how) (parts_write xs how)
+
+-- ---- `moves`: of the octets before it, data asks for its names alone
+part_moves : (x : Part) (how : NameForm) (c : Bool) (t u s : List ℕ) → NamesMove c t u → PartComposed x how c t s → PartComposed x how c u s
+part_moves (a_name ls) Compressed c t u s move name = name_moves ls c t u s move name
+part_moves (a_name ls) (Whole lowercase) c t u s move is = is
+part_moves (no_name octets) how c t u s move is = is
+
+pub parts_move : (xs : List Part) (how : NameForm) (c : Bool) (t u s : List ℕ) → NamesMove c t u → PartsComposed xs how c t s → PartsComposed xs how c u s
+parts_move [] how c t u s move is = is
+parts_move (x ∷ xs) how c t u s move both =
+    both_moves (PartComposed x how) (PartsComposed xs how) c t u s (part_moves x how) (parts_move xs how) move both

@@ -10,6 +10,7 @@ mod order;
 pub mod owned;
 mod owned_calls;
 mod read;
+mod read_back;
 mod reader;
 
 pub use all::AllRecordData;

@@ -1,6 +1,7 @@
 //! Data of a few types, read, composed, compared and owned.
 use crate::{AllRecordData, OwnedRecordData};
 use domain_descriptor::DataFault;
+use domain_fields::ReadBackData;
 use domain_header::Class;
 use domain_rdata::{
     CanonicalRecordData, ComposeRecordData, ParseAnyRecordData, ParseRecordData, RecordData, Rtype,
@@ -43,6 +44,7 @@ fn mail_exchange(rt: HostRuntime) {
     assert_eq!(rt; data.rdlen(false), Some(20));
     assert_eq!(rt; data.rdlen(true), None);
     assert!(rt; data.knows_names());
+    data.reads_back();
     assert!(rt; data == other);
     assert!(rt; data.canonical_cmp(&other) == Ordering::Equal);
     assert_eq!(rt; hash_of(&data), hash_of(&other));

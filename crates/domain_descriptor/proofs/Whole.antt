@@ -9,6 +9,7 @@ use Rattle.domain_reading.specs.ParseResult.{HasNoName}
 use Rattle.domain_reading.specs.declared.fault.NameFault.{NameFault}
 use Rattle.domain_wire.specs.Refusals.{Refusal}
 use Rattle.domain_descriptor.specs.declared.fault.DataFault.{DataFault}
+use Rattle.domain_descriptor.specs.declared.fault.DataFault.TheVariants.{TrailingData}
 use Rattle.domain_descriptor.specs.declared.form.FieldForm.{FieldForm}
 use Rattle.domain_descriptor.specs.declared.form.FieldForm.TheVariants as forms
 use Rattle.domain_descriptor.specs.declared.kind.FieldKind.{FieldKind}
@@ -39,6 +40,14 @@ no_fault_before kinds m p i why whole fault = whole why (inl (fault_before m p k
 -- nor in the next
 pub no_fault_at : (kinds : List FieldKind) (m : List ℕ) (p i q : ℕ) (why : DataFault) → ((w : DataFault) → AreNoData kinds m p w → ⊥) → i < length kinds → FieldsAt (take i kinds) m p q → FieldFault (get_or kinds i Number8) m q why → ⊥
 no_fault_at kinds m p i q why whole inside before fault = whole why (inl (fault_after m p kinds i q why inside before fault))
+
+-- nor in all of them,
+pub no_field_fault : (kinds : List FieldKind) (m : List ℕ) (p : ℕ) (why : DataFault) → ((w : DataFault) → AreNoData kinds m p w → ⊥) → FieldsFault kinds m p why → ⊥
+no_field_fault kinds m p why whole fault = whole why (inl fault)
+
+-- and no octet is left after them
+pub none_after : (kinds : List FieldKind) (m : List ℕ) (p e : ℕ) → ((w : DataFault) → AreNoData kinds m p w → ⊥) → FieldsAt kinds m p e → e < length m → ⊥
+none_after kinds m p e whole at left = whole TrailingData (inr (refl, (e, at, left)))
 
 optional_inside : (m : List ℕ) (p e : ℕ) → FormAt forms.OptionalCounted m p e → p ≤ e
 optional_inside m p e (inl a) = omega (arith, a.1)
