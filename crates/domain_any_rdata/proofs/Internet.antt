@@ -7,17 +7,17 @@ use Rattle.domain_descriptor.specs.Rdatas.{IsRdata}
 use Rattle.domain_descriptor.specs.Refusals.{error_of_data}
 use Rattle.domain_descriptor.specs.Table.{known_fields}
 use Rattle.domain_descriptor.specs.declared.fault.DataFault.{DataFault}
-use Rattle.domain_descriptor.specs.declared.rdata.Rdata.{Rdata}
 use Rattle.domain_any_rdata.proofs.Named.{parts_of_data}
-use Rattle.domain_any_rdata.specs.Parts.{rdata_parts}
+use Rattle.domain_any_rdata.specs.AllData.{data_of, seen_data, IsAllData}
 use Rattle.domain_any_rdata.specs.Reading.{InternetDataAt, NoInternetData}
+use Rattle.domain_any_rdata.specs.declared.all.AllRecordData.{AllRecordData}
 
-pub data_there : (t k : ℕ) (m : List ℕ) (p : ℕ) (it : Rdata) (e : ℕ) → k ≡ 1 → p ≤ length m → length (drop p m) ≤ 65535
-    → IsRdata t k m p it → AreData (known_fields t k) m p → e ≡ length m → InternetDataAt t m p (rdata_parts it) e
+pub data_there : (t k : ℕ) (m : List ℕ) (p : ℕ) (it : AllRecordData) (e : ℕ) → k ≡ 1 → p ≤ length m → length (drop p m) ≤ 65535
+    → IsAllData t k m p it → AreData (known_fields t k) m p → e ≡ length m → InternetDataAt t m p (seen_data it) e
 data_there t k m p it e one inside few is are ends =
-    let here : IsRdata t 1 m p it = subst (λ (x : ℕ). IsRdata t x m p it) one is in
+    let here : IsRdata t 1 m p (data_of it) = subst (λ (x : ℕ). IsRdata t x m p (data_of it)) one is in
     let all : AreData (known_fields t 1) m p = subst (λ (x : ℕ). AreData (known_fields t x) m p) one are in
-    (record { inside = inside; are = all; says = parts_of_data t 1 m p it here; ends = ends }, few)
+    (here.classed, record { inside = inside; are = all; says = parts_of_data t 1 m p (data_of it) here; ends = ends }, few)
 
 pub none_there : (t k : ℕ) (m : List ℕ) (p : ℕ) (fault : DataFault) (why : ParseError) → k ≡ 1 → p ≤ length m → length (drop p m) ≤ 65535
     → AreNoData (known_fields t k) m p fault → refusal why ≡ error_of_data fault → NoInternetData t m p why

@@ -24,6 +24,14 @@ data_class it = rdata_class it.rdata
 abbrev pub data_parts : AllRecordData → List Part
 data_parts it = rdata_parts it.rdata
 
+-- what is seen of data of a type: its class, and its fields as parts
+abbrev pub SeenData : Type 0
+SeenData = ℕ × List Part
+
+-- what is seen of this data
+abbrev pub seen_data : AllRecordData → SeenData
+seen_data it = (data_class it, data_parts it)
+
 -- It is of this type and class, and from p to the end of m.
 abbrev pub IsAllData : ℕ → ℕ → List ℕ → ℕ → AllRecordData → Type 0
 IsAllData rtype class m p it = IsRdata rtype class m p it.rdata

@@ -2,7 +2,7 @@
 use Rattle.std.specs.Prelude.{◌≡◌, ℕ, List, [], ◌∷◌}
 use Rattle.domain_label.specs.Lowercase.{lowercase_labels}
 use Rattle.domain_fields.specs.Parts.{Part, a_name, no_name}
-use Rattle.domain_any_rdata.specs.AllData.{data_class, data_parts}
+use Rattle.domain_any_rdata.specs.AllData.{data_class, data_parts, SeenData}
 use Rattle.domain_any_rdata.specs.Reading.{DataAt}
 use Rattle.domain_any_rdata.specs.declared.all.AllRecordData.{AllRecordData}
 
@@ -18,10 +18,6 @@ LikeParts [] [] = Unit {0}
 LikeParts [] (y ∷ ys) = ⊥
 LikeParts (x ∷ xs) [] = ⊥
 LikeParts (x ∷ xs) (y ∷ ys) = LikePart x y × LikeParts xs ys
-
--- what is seen of data: its class and its parts; the type is given
-abbrev pub SeenData : Type 0
-SeenData = ℕ × List Part
 
 -- Data of the type that is seen so is at p, and ends at e.
 abbrev pub SeenAt : ℕ → List ℕ → ℕ → SeenData → ℕ → Type 0

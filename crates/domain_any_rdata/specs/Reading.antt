@@ -11,6 +11,7 @@ use Rattle.domain_descriptor.specs.declared.fault.DataFault.{DataFault}
 use Rattle.domain_descriptor.proofs.Exact.{data_or_fault}
 use Rattle.domain_descriptor.proofs.OneFault.{data_fault_once}
 use Rattle.domain_fields.specs.Parts.{Part}
+use Rattle.domain_any_rdata.specs.AllData.{SeenData}
 use Rattle.domain_any_rdata.specs.Parts.{parts_at}
 
 -- These parts are data of the type in the class from p to the end e of m.
@@ -26,8 +27,8 @@ NoDataAt rtype class m p why =
     (fault : DataFault) × AreNoData (known_fields rtype class) m p fault × (refusal why ≡ error_of_data fault)
 
 -- Such data in class IN, of at most 65,535 octets: a record can have no more.
-abbrev pub InternetDataAt : ℕ → List ℕ → ℕ → List Part → ℕ → Type 0
-InternetDataAt rtype m p parts e = DataAt rtype 1 m p parts e × (length (drop p m) ≤ 65535)
+abbrev pub InternetDataAt : ℕ → List ℕ → ℕ → SeenData → ℕ → Type 0
+InternetDataAt rtype m p seen e = (seen.0 ≡ 1) × DataAt rtype 1 m p seen.1 e × (length (drop p m) ≤ 65535)
 
 -- There is none, and why: more than 65,535 octets are left, or they aren't the fields of the type.
 abbrev pub NoInternetData : ℕ → List ℕ → ℕ → ParseError → Type 0
@@ -42,15 +43,21 @@ once rtype m p why other (inr a) (inl b) = absurd (omega (arith, a.1, b.0))
 once rtype m p why other (inr a) (inr b) =
     a.2.2 ∙ (ap error_of_data (data_fault_once (known_fields rtype 1) m p a.2.0 b.2.0 a.0 a.2.1 b.2.1) ∙ sym b.2.2)
 
-neither : (rtype : ℕ) (m : List ℕ) (p : ℕ) (parts : List Part) (e : ℕ) (why : ParseError) → InternetDataAt rtype m p parts e → NoInternetData rtype m p why → ⊥
-neither rtype m p parts e why at (inl long) = omega (arith, at.1, long.0)
-neither rtype m p parts e why at (inr fails) = data_or_fault (known_fields rtype 1) m p fails.2.0 at.0.are fails.2.1
+neither : (rtype : ℕ) (m : List ℕ) (p : ℕ) (seen : SeenData) (e : ℕ) (why : ParseError) → InternetDataAt rtype m p seen e → NoInternetData rtype m p why → ⊥
+neither rtype m p seen e why at (inl long) = omega (arith, at.2, long.0)
+neither rtype m p seen e why at (inr fails) = data_or_fault (known_fields rtype 1) m p fails.2.0 at.1.are fails.2.1
+
+same_seen : (rtype : ℕ) (m : List ℕ) (p : ℕ) (a b : SeenData) (e f : ℕ) → InternetDataAt rtype m p a e → InternetDataAt rtype m p b f → (a ≡ b) × (e ≡ f)
+same_seen rtype m p a b e f x y =
+    let class = x.0 ∙ sym y.0 in
+    let parts = x.1.says ∙ sym y.1.says in
+    ((λ i. (class i, parts i)), x.1.ends ∙ sym y.1.ends)
 
 -- At each offset there is one value or one error, never both.
 pub internet_data_reading : (rtype : ℕ) → IsReading (InternetDataAt rtype) (NoInternetData rtype)
 internet_data_reading rtype = record {
-  inside = λ m p parts e at. (omega (arith, at.0.inside, at.0.ends), omega (arith, at.0.ends));
-  one_value = λ m p a b e f x y. (x.0.says ∙ sym y.0.says, x.0.ends ∙ sym y.0.ends);
+  inside = λ m p seen e at. (omega (arith, at.1.inside, at.1.ends), omega (arith, at.1.ends));
+  one_value = same_seen rtype;
   not_both = neither rtype;
   one_fault = once rtype;
 }

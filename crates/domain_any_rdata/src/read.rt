@@ -1,6 +1,5 @@
 //! Data of any type where a parser stands. The traits have no class, so it is read as data of class IN.
-ghost use Rattle.std.specs.Prelude.{◌≡◌, ℕ, List, true};
-ghost use Rattle.domain_fields.specs.Parts.{Part};
+ghost use Rattle.std.specs.Prelude.{true};
 ghost use Rattle.domain_any_rdata.specs.Reading.{InternetDataAt, NoInternetData, internet_data_reading};
 
 use crate::all::AllRecordData;
@@ -12,11 +11,11 @@ use octseq::Parser;
 
 /// All remaining octets, at most 65,535, are the fields of the type. An error comes as the type's own reader has it.
 impl<'m> ParseAnyRecordData<'m> for AllRecordData<'m> {
-    ghost use Rattle.domain_any_rdata.specs.AllData.{data_parts};
+    ghost use Rattle.domain_any_rdata.specs.AllData.{SeenData, seen_data};
 
-    ghost View = { List Part };
+    ghost View = { SeenData };
 
-    ghost model = { data_parts };
+    ghost model = { seen_data };
 
     ghost encodes = { InternetDataAt };
 
@@ -43,11 +42,11 @@ impl<'m> ParseAnyRecordData<'m> for AllRecordData<'m> {
 
 /// The same: each type has such data.
 impl<'m> ParseRecordData<'m> for AllRecordData<'m> {
-    ghost use Rattle.domain_any_rdata.specs.AllData.{data_parts};
+    ghost use Rattle.domain_any_rdata.specs.AllData.{SeenData, seen_data};
 
-    ghost View = { List Part };
+    ghost View = { SeenData };
 
-    ghost model = { data_parts };
+    ghost model = { seen_data };
 
     ghost reads_type = { λ _. true };
 
