@@ -1,9 +1,9 @@
 -- One part more is composed. What is known at each turn is said of what is left: whatever completes that completes
 -- all.
-use Rattle.std.proofs.Common.{◌≡◌, ◌∙◌, ℕ, ◌+◌, ◌≤◌, ◌<◌, Bool, List, [], ◌∷◌, ◌++◌, length, take, refl, sym, ap, subst, append_assoc, append-nil, length-append, arith}
+use Rattle.std.proofs.Common.{◌≡◌, ◌∙◌, ℕ, ◌+◌, ◌≤◌, ◌<◌, Bool, List, [], ◌∷◌, ◌++◌, length, refl, sym, ap, subst, append_assoc, append-nil, length-append, arith}
 use Rattle.domain_rdata.specs.ReadBack.{Appended}
 use Rattle.domain_fields.specs.Parts.{Part, part_octets, parts_octets}
-use Rattle.domain_fields.specs.Sequences.{BothComposed, BothWritten, both_plain}
+use Rattle.domain_fields.specs.Sequences.{BothComposed, both_plain}
 use Rattle.domain_any_rdata.specs.Composing.{PartComposed, PartsComposed, part_written, parts_written, lowers, part_shorter}
 use Rattle.domain_any_rdata.specs.declared.name_form.NameForm.{NameForm}
 

@@ -8,8 +8,7 @@ use Rattle.domain_rdata.specs.ReadBack.{Appended}
 use Rattle.domain_rdata.specs.Rtypes.{has_lowercase_names}
 use Rattle.domain_fields.specs.Parts.{Part, parts_octets}
 use Rattle.domain_any_rdata.specs.Composing.{PartsComposed, composed_form, lowers, parts_whole, parts_flat}
-use Rattle.domain_any_rdata.specs.declared.name_form.NameForm.{NameForm}
-use Rattle.domain_any_rdata.specs.declared.name_form.NameForm.TheVariants.{Compressed, Whole}
+use Rattle.domain_any_rdata.specs.declared.name_form.NameForm.TheVariants.{Whole}
 use Rattle.domain_any_rdata.proofs.Lengths.{parts_size}
 
 picked : (lowered known : Bool) (form : Bool → List ℕ) → (if lowered then lowercase_where_known (form false) (if known then Some (form true) else None) else form false) ≡ form (known && lowered)
@@ -53,8 +52,15 @@ sized_by (Some n) xs o same flat = same ∙ flat
 
 pub form_size : (t : ℕ) (known compress : Bool) (xs : List Part) (told : Option ℕ) → IfSome told (λ n. length (parts_octets false xs) ≡ n)
     → compress ≡ false → IfSome told (λ n. length (canonical t known xs) ≡ n)
-form_size t known compress xs told flat no =
+form_size t known compress xs told flat flatly =
     sized_by told xs (canonical t known xs) (ap (λ (o : List ℕ). length o) (form_is t known (λ b. parts_octets b xs)) ∙ parts_size (known && has_lowercase_names t) xs) flat
+
+pub no_left : (a b : Bool) → a ≡ false → (a && b) ≡ false
+no_left a b no_a = ap (λ x. x && b) no_a
+
+pub no_right : (a b : Bool) → b ≡ false → (a && b) ≡ false
+no_right true b no_b = no_b
+no_right false b no_b = refl
 
 one_size : (compress compressed : Bool) (xs : List Part) (n : ℕ) → (compress && compressed) ≡ false → length (parts_octets false xs) ≡ n
     → (t s : List ℕ) → PartsComposed xs (composed_form compressed) compress t s → length s ≡ n
@@ -73,10 +79,10 @@ many_test : (n : ℕ) → 65535 < n → nat_le n 65535 ≡ false
 many_test n many = grind (arith, nat_tests)
 
 test_many : (n : ℕ) → nat_le n 65535 ≡ false → 65535 < n
-test_many n no = grind (arith, nat_tests)
+test_many n many = grind (arith, nat_tests)
 
 few_known : (n : ℕ) (told : Option ℕ) → (IsNone told ↔ (65535 < n)) → IsNone told ↔ (nat_le n 65535 ≡ false)
-few_known n told by = (λ none. many_test n (by.0 none), λ no. by.1 (test_many n no))
+few_known n told by = (λ none. many_test n (by.0 none), λ many. by.1 (test_many n many))
 
 pub len_known : (compress compressed : Bool) (n : ℕ) (told : Option ℕ) → (compress && compressed) ≡ false → (IsNone told ↔ (65535 < n))
     → IsNone told ↔ ((not (compress && compressed) && nat_le n 65535) ≡ false)

@@ -1,8 +1,6 @@
 -- The length of the octets.
-use Rattle.std.proofs.Common.{◌≡◌, ◌∙◌, ℕ, ◌+◌, ◌-◌, ◌<◌, Bool, true, false, List, [], ◌∷◌, ◌++◌, length, Option, None, Some, IfSome, refl, sym, ap, subst, length-append, arith}
+use Rattle.std.proofs.Common.{◌≡◌, ℕ, ◌+◌, ◌-◌, ◌<◌, Bool, true, false, List, [], ◌∷◌, length, refl, ap, length-append, arith}
 use Rattle.domain_label.proofs.CanonicalForm.{lowercase_size}
-use Rattle.domain_label.specs.Wire.{wire}
-use Rattle.domain_fields.specs.Cases.{cased_labels}
 use Rattle.domain_fields.specs.Parts.{Part, a_name, no_name, part_octets, parts_octets}
 
 pub part_size : (lowercase : Bool) (x : Part) → length (part_octets lowercase x) ≡ length (part_octets false x)

@@ -53,7 +53,7 @@ data_named rtype class m p it is at =
     (subst (λ x. AreNamed (parts_at (known_fields rtype class) m x)) (sym is.begins) all))
 
 -- ---- what a field is
-form_octets : (it : FieldForm) (m : List ℕ) (p e : ℕ) → (it ≡ forms.Name → ⊥) → form_part it m p e ≡ no_name (slice_range m p e)
+pub form_octets : (it : FieldForm) (m : List ℕ) (p e : ℕ) → (it ≡ forms.Name → ⊥) → form_part it m p e ≡ no_name (slice_range m p e)
 form_octets (forms.Fixed n) m p e other = refl
 form_octets forms.Name m p e other = absurd (other refl)
 form_octets forms.Counted m p e other = refl

@@ -20,8 +20,8 @@ use Rattle.domain_fields.specs.Parts.{Part, a_name, no_name, part_octets, parts_
 use Rattle.domain_fields.specs.ReadBack.{name_read_back, wire_read_back}
 use Rattle.domain_fields.specs.Sequences.{both_shorter}
 use Rattle.domain_fields.specs.FieldLaws.{no_longer}
-use Rattle.domain_any_rdata.specs.AllData.{data_of, data_type, data_class, data_parts}
-use Rattle.domain_any_rdata.specs.Back.{LikePart, LikeParts, SeenData, SeenAt, IsLike}
+use Rattle.domain_any_rdata.specs.AllData.{data_of, data_type, data_class, data_parts, SeenData}
+use Rattle.domain_any_rdata.specs.Back.{LikePart, LikeParts, SeenAt, IsLike}
 use Rattle.domain_any_rdata.specs.Composing.{PartComposed, PartsComposed, composed_form, lowers, part_shorter}
 use Rattle.domain_any_rdata.specs.Parts.{form_part, field_part, parts_at}
 use Rattle.domain_any_rdata.specs.declared.all.AllRecordData.{AllRecordData}
