@@ -9,7 +9,7 @@ import textwrap
 
 import dns.name
 import dns.rdatatype
-from dns.rdatatype import A, AAAA, ANY, CNAME, DNAME, RRSIG
+from dns.rdatatype import A, AAAA, ANY, CNAME, DNAME, NSEC, RRSIG
 
 PARTS = "rcode aa answer authority additional".split()
 
@@ -106,69 +106,79 @@ CLASSES = [
         "additional",
         lambda it: it.ours.answer and it.adds(names_in(it.theirs.answer)),
         "A server may add addresses of the names in an answer (RFC 1034, 4.3.2, step 6). `dnszone` adds none to an "
-        "answer: who wants them asks for them.",
+        "answer; a client can ask for them.",
     ),
     (
         "nsd knotd",
         "additional",
         lambda it: not it.ours.aa and it.adds(names_in(it.theirs.authority)),
-        "The server makes the address of a name server in a referral from a wildcard. Glue is what the zone has at "
-        "that name (RFC 1034, 4.2.1; RFC 9471, 3), and RFC 4592 lets a wildcard answer a question for it.",
+        "The server adds an address that a wildcard gives to a name server of a referral. RFC 9471, 3, demands the "
+        "glue that the zone has at that name, and `dnszone` adds no other addresses.",
     ),
     (
         "named",
         "additional",
         lambda it: not it.more("additional") and all(it.zone.ask(*one[0:3:2]).aa for one in it.less("additional")),
-        "With minimal responses BIND puts glue into a referral, and no addresses for which the zone has authority. RFC "
-        "9471, 3, demands glue alone. `dnszone` adds whatever addresses the zone has (RFC 1034, 4.3.2, step 3b).",
-    ),
-    (
-        "nsd knotd named",
-        "answer",
-        is_any,
-        "A question for any type is answered by one RRset or more, at the server's choice (RFC 8482, 4.1). `dnszone` "
-        "takes the lowest type. The server takes another one, or all of them.",
+        "With minimal responses BIND adds glue to a referral, but no addresses for which the zone has authority. RFC "
+        "9471, 3, demands glue alone. `dnszone` adds all addresses that the zone has (RFC 1034, 4.3.2, step 3b).",
     ),
     (
         "named",
         "rcode answer authority additional",
         lambda it: it.rtype == ANY and it.theirs == it.zone.ask(it.name, it.rtype),
-        "After a DNAME the search starts again with the new name (RFC 6672, 3.2, step 3c). For any type BIND stops at "
-        "the CNAME, which is an answer to it (RFC 8482, 4.1).",
+        "After a DNAME the search starts again with the new name (RFC 6672, 3.2, step 3c). For ANY, BIND stops at "
+        "the CNAME, which answers the question (RFC 8482, 4.1).",
+    ),
+    (
+        "nsd knotd named",
+        "answer",
+        is_any,
+        "A question for ANY may be answered with one RRset or more, at the server's choice (RFC 8482, 4.1). "
+        "`dnszone` returns the RRset of the lowest type, the server another one or all of them.",
+    ),
+    (
+        "named",
+        "aa answer authority additional",
+        lambda it: it.rtype == NSEC and not it.ours.aa and it.zone.has(it.theirs.answer),
+        "A question for the NSEC of a cut gets a referral: only DS is excepted (RFC 4035, 3.1.4.1). BIND answers it "
+        "with the NSEC that the zone has there.",
     ),
     (
         "named",
         "rcode",
         is_loop,
-        "A loop of CNAMEs is to be signalled as an error (RFC 1034, 3.6.2). BIND sets SERVFAIL. `dnszone` answers "
-        "with one CNAME a question, so that its caller finds the loop. NSD and Knot DNS don't signal it either.",
+        "A loop of CNAMEs should be reported as an error (RFC 1034, 3.6.2). BIND returns SERVFAIL. `dnszone` returns "
+        "one CNAME per question, so its caller finds the loop. NSD and Knot DNS return NOERROR, too.",
     ),
     (
         "knotd named",
         "rcode answer authority additional",
         is_long_chain,
-        "A chain of CNAMEs is to be followed (RFC 1034, 3.6.2). These servers stop at some length: the client asks "
-        "for the rest. How far a caller of `dnszone` follows is its own choice; this script follows to the end.",
+        "A chain of CNAMEs should be followed (RFC 1034, 3.6.2). These servers stop after some of them, and the "
+        "client asks for the rest. How far a caller of `dnszone` follows is its own choice; this script follows to "
+        "the end.",
     ),
     (
         "nsd",
         "rcode answer authority additional",
         is_second_turn,
-        "Each DNAME on the way makes a name (RFC 6672, 3.2, step 3c), and one that becomes too long gives YXDOMAIN "
-        "(2.2). NSD uses no DNAME twice in a response, and stops before that.",
+        "Each DNAME on the way makes a name (RFC 6672, 3.2, step 3c), and a name that becomes too long gives "
+        "YXDOMAIN (2.2). NSD uses no DNAME twice in a response, so it stops earlier.",
     ),
     (
         "knotd",
         "rcode authority",
         lambda it: (it.ours.rcode, it.theirs.rcode) == ("YXDOMAIN", "NXDOMAIN"),
-        "Where a DNAME makes a name too long, the response code is YXDOMAIN (RFC 6672, 2.2). Knot DNS denies the name.",
+        "Where a DNAME makes a name too long, the response code is YXDOMAIN (RFC 6672, 2.2). Knot DNS returns "
+        "NXDOMAIN.",
     ),
 ]
 # Faults of this project, which fail: what the page says of each, and a test.
 FAULTS = [
     (
-        "The TTL of an RRSIG is that of the RRset which it covers, so the RRSIGs of one owner may have several (RFC "
-        "4034, 3, an exception of RFC 2181, 5.2). `dnszone` gives all RRSIGs of an owner the lowest TTL of them.",
+        "The TTL of an RRSIG is that of the RRset that it covers, so the RRSIGs of one owner can have different TTLs "
+        "(RFC 4034, 3, an exception to RFC 2181, 5.2). `dnszone` gives all RRSIGs of an owner the lowest of their "
+        "TTLs.",
         is_signed_otherwise,
     ),
 ]
@@ -204,38 +214,38 @@ class Trial:
             it = Difference(server, zone, name, rtype, our, their)
             counts = self.counts[server]
             if not it.parts():
-                counts["alike"] += 1
+                counts["equal"] += 1
                 continue
             claimed, faults, rest = classes_of(it)
             counts["unlisted" if rest else "fault" if faults else "listed"] += 1
             question = f"{name} {dns.rdatatype.to_text(rtype)}"
             for key in [("class", one) for one in claimed] + [("fault", one) for one in faults]:
                 counts[key] += 1
-                self.examples.setdefault(key, f"{server}, zone '{zone.name}', {question}")
+                self.examples.setdefault(key, f"{server}, zone '{zone.name}', `{question}`")
             for part in sorted(rest):
                 said = f"here '{shown(getattr(our, part))}', there '{shown(getattr(their, part))}'"
                 self.unlisted.append(f"{server}, zone '{zone.name}', {question}: {part}: {said}")
 
 
 INTRO = [
-    "`evidence/compare/servers` loads zones into name servers on loopback, asks them questions, and asks `dnszone ask` "
-    "the same. It writes this page, here on {day}. All read the same text of a zone ([zones.py](zones.py)): the worked "
-    "zones of RFC 4592 and RFC 1034, made zones for each rule of a lookup, and drawn ones.",
-    "Compared are the response code, the AA bit, and the answer, authority and additional sections as sets of records: "
-    "owner, TTL, type and data. Upper and lower case are one (RFC 4343, 3). Queries go over TCP, without EDNS, and the "
-    "servers are set to minimal responses. Each response is alike, or differs in a way that has its reason below, or "
-    "fails.",
-    "`dnszone ask` takes one question a run and follows no CNAME. So the script runs it again for the target of a "
-    "CNAME, as [domain_zone_answer](../../crates/domain_zone_answer/README.md) tells its callers, and the response "
-    "that is compared has the whole chain. {program}",
+    "`evidence/compare/servers` loads zones into name servers on loopback, and asks them and `dnszone ask` the same "
+    "questions. It wrote this page on {day}. All read the same text of a zone ([zones.py](zones.py)): the zones of "
+    "RFC 4592, 2.2.1, and RFC 1034, 6.1, some for each rule of a lookup, and four that are drawn from fixed seeds.",
+    "Compared are the response code, the AA bit, and the answer, authority and additional sections as sets of "
+    "records: owner, TTL, type and data. Case is ignored in names (RFC 4343, 3). Queries go over TCP, without EDNS, "
+    "and the servers are set to minimal responses. A response is equal, or differs in a way that is listed below "
+    "with its reason, or fails.",
+    "`dnszone ask` answers one question per run and follows no CNAME. So the script runs it again for the target of "
+    "a CNAME, as [domain_zone_answer](../../crates/domain_zone_answer/README.md) describes, and compares the whole "
+    "chain. {program}",
 ]
 LIMITS = [
-    "Zones with NSEC3 records, since `dnszone` takes no NSEC3 records ([domain_zone]"
-    "(../../crates/domain_zone/README.md#faults)). The signed zone has NSEC.",
+    "Zones with NSEC3 records: `dnszone` refuses that type "
+    "([domain_zone](../../crates/domain_zone/README.md#faults)). The signed zone has NSEC.",
     "Wildcards that own NS or DNAME, which `dnszone` refuses (RFC 4592, 4.2 and 4.4).",
-    "Text that one of the four doesn't read: relative names in data, and TTLs with units in an SOA (`dnszone`), a line "
-    "that ends between quotes (BIND), a name that ends in `\\\\` (NSD).",
-    "Responses with DNSSEC records, EDNS and truncation: `dnszone ask` has none.",
+    "Text that one of the four refuses: relative names in data and TTLs with units in an SOA (`dnszone`), the end of "
+    "a line between quotes (BIND), a name that ends in `\\\\` (NSD).",
+    "Responses with DNSSEC records or EDNS, and truncation: `dnszone ask` has none of them.",
 ]
 
 
@@ -251,7 +261,7 @@ def reasons(trial, heading, kind, texts):
     for number in seen:
         key = kind, number
         counts = ", ".join(f"{server} {it[key]:,}" for server, it in trial.counts.items() if it[key])
-        yield from wrapped(f"{texts[number]} ({counts}; as {trial.examples[key]})", "- ")
+        yield from wrapped(f"{texts[number]} ({counts}; for example {trial.examples[key]})", "- ")
 
 
 def page(trial, versions, is_proved):
@@ -261,10 +271,10 @@ def page(trial, versions, is_proved):
     for it in INTRO:
         yield ""
         yield from wrapped(it.format(day=datetime.date.today(), program=program))
-    yield from ["", "| Server | Responses | Alike | Listed differences | Faults here | Not listed |"]
+    yield from ["", "| Server | Responses | Equal | Listed differences | Faults of `dnszone` | Not listed |"]
     yield "|---|--:|--:|--:|--:|--:|"
     for server, it in trial.counts.items():
-        counts = [sum(trial.asked.values()), *(it[one] for one in ("alike", "listed", "fault", "unlisted"))]
+        counts = [sum(trial.asked.values()), *(it[one] for one in ("equal", "listed", "fault", "unlisted"))]
         yield f"| {versions[server]} (`{server}`) | {' | '.join(f'{count:,}' for count in counts)} |"
     yield from reasons(trial, "Faults of `dnszone`", "fault", [text for text, _ in FAULTS])
     yield from reasons(trial, "Differences", "class", [it[3] for it in CLASSES])

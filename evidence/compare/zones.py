@@ -1,6 +1,6 @@
-"""The zones that evidence/compare/servers asks for, and the questions to each. Nothing is drawn but by fixed seeds.
+"""The zones of evidence/compare/servers and the questions to each. What is drawn at random has a fixed seed.
 
-In a text, ~ stands for the apex without its final dot. Names in data are absolute, as `dnszone` takes no others."""
+In a text, ~ stands for the apex without its final dot. Names in data are absolute: `dnszone` takes no others."""
 
 import hashlib
 import random
@@ -16,7 +16,8 @@ $TTL 3600
 OWN_ADDRESS = "ns A 192.0.2.1\n"
 ALWAYS = "A AAAA NS SOA MX TXT CNAME DS ANY TYPE65280".split()
 # NSD 4.6 reads no name that ends in two backslashes.
-SPECIAL = (r"a\.b", r"a\ b", r"\000", r"\255\128", r"\"q\"", r"\;", r"\(p\)", r"\@", r"\$x", r"\\x", r"\092", "_s", "-", "0", "0-9")
+SPECIAL = [r"a\.b", r"a\ b", r"\000", r"\255\128", r"\"q\"", r"\;", r"\(p\)", r"\@", r"\$x", r"\\x", r"\092"]
+SPECIAL += ["_s", "-", "0", "0-9"]
 
 # RFC 4592, 2.2.1.
 WILDCARDS = """$ORIGIN example.
@@ -289,7 +290,7 @@ def wildcards_of_depth(depth):
 
 
 def chains(most):
-    """Chains of each length up to so many CNAMEs, which end at an address."""
+    """Chains of 1 to `most` CNAMEs, which end at an address."""
     return "".join(f"c{it} CNAME c{it - 1}.~.\n" for it in range(1, most + 1)) + "c0 A 192.0.2.2\n"
 
 
@@ -300,7 +301,7 @@ def deep():
 
 
 def drawn(seed, wanted=60):
-    """A zone of drawn records, of which one is left out where it can't be beside the others."""
+    """Random records of a zone, without those that can't be beside the others."""
     draw, kept = random.Random(seed), {}
     labels = ["a", "b", "c", "*", "a", "b"]
     for _ in range(wanted):
@@ -337,7 +338,7 @@ def zones():
         "DNAMEs": DNAMES,
         "chains of CNAMEs": chains(20),
         "loops of CNAMEs": LOOPS,
-        "special characters": "".join(f"{it} TXT \"{number}\"\n*.{it} A 192.0.2.2\n" for number, it in enumerate(SPECIAL)),
+        "special characters": "".join(f"{it} TXT \"{at}\"\n*.{it} A 192.0.2.2\n" for at, it in enumerate(SPECIAL)),
         "mixed case": CASES,
         "types": TYPES,
         "additional addresses": ADDITIONAL,
@@ -379,12 +380,12 @@ def joined(labels, suffix):
 
 
 def questions(apex, records, most):
-    """At most so many questions, of which those by their hash come first. Records are owner, type and target or None."""
+    """At most `most` questions: each owner with its types, then the others in the order of a hash. Records are owner,
+    type, and target or None."""
     apex = dns.name.from_text(apex)
     types = {*ALWAYS, *(dns.rdatatype.to_text(rtype) for _, rtype, _ in records)}
     names = asked_names(apex, {it for it, _, _ in records}, {it for _, _, it in records if it is not None})
     every = {(it.to_text(), rtype) for it in names for rtype in types}
-    # Names that a shell or the RFCs' own examples would ask come as owners with their own types, and always.
     first = {(owner.to_text(), dns.rdatatype.to_text(rtype)) for owner, rtype, _ in records}
     rest = sorted(every - first, key=lambda it: hashlib.sha256(repr((apex.to_text(), it)).encode()).digest())
     return [*sorted(first), *rest][:most]
