@@ -1,0 +1,68 @@
+//! Data of any type where a parser stands. The traits have no class, so it is read as data of class IN.
+ghost use Rattle.std.specs.Prelude.{true};
+ghost use Rattle.domain_any_rdata.specs.Reading.{InternetDataAt, NoInternetData, internet_data_reading};
+
+use crate::all::AllRecordData;
+use domain_descriptor::{DataFault, Rdata};
+use domain_header::Class;
+use domain_rdata::{LongRecordData, ParseAnyRecordData, ParseRecordData, Rtype};
+use domain_wire::ParseError;
+use octseq::Parser;
+
+/// All remaining octets, at most 65,535, are the fields of the type. An error comes as the type's own reader has it.
+impl<'m> ParseAnyRecordData<'m> for AllRecordData<'m> {
+    ghost use Rattle.domain_any_rdata.specs.AllData.{SeenData, seen_data};
+
+    ghost View = { SeenData };
+
+    ghost model = { seen_data };
+
+    ghost encodes = { InternetDataAt };
+
+    ghost fails_with = { NoInternetData };
+
+    fn parse_any_rdata(
+        rtype: Rtype,
+        parser: &mut Parser<'m>,
+    ) -> Result<AllRecordData<'m>, ParseError> {
+        LongRecordData::check_len(parser.remaining())?;
+        match AllRecordData::parse(rtype, Class::from_int(1), parser.as_slice(), parser.pos()) {
+            Ok(it) => {
+                let Ok(()) = parser.advance(parser.remaining()) else {
+                    unreachable!();
+                };
+                Ok(it)
+            }
+            Err(fault) => Err(ParseError::from(fault)),
+        }
+    }
+
+    ghost lawful = { internet_data_reading };
+}
+
+/// The same: each type has such data.
+impl<'m> ParseRecordData<'m> for AllRecordData<'m> {
+    ghost use Rattle.domain_any_rdata.specs.AllData.{SeenData, seen_data};
+
+    ghost View = { SeenData };
+
+    ghost model = { seen_data };
+
+    ghost reads_type = { λ _. true };
+
+    ghost encodes = { InternetDataAt };
+
+    ghost fails_with = { NoInternetData };
+
+    fn parse_rdata(
+        rtype: Rtype,
+        parser: &mut Parser<'m>,
+    ) -> Result<Option<AllRecordData<'m>>, ParseError> {
+        match AllRecordData::parse_any_rdata(rtype, parser) {
+            Ok(it) => Ok(Some(it)),
+            Err(e) => Err(e),
+        }
+    }
+
+    ghost lawful = { internet_data_reading };
+}
