@@ -1,5 +1,5 @@
 //! Record data of any type in a message.
-ghost use Rattle.std.specs.Prelude.{◌≡◌, ◌≤◌, length, not, nat_le, false, true, if◌then◌else◌, ◌&&◌, Some, None, IfOk, IfErr};
+ghost use Rattle.std.specs.Prelude.{◌≡◌, ◌≤◌, length, not, nat_le, false, true, ◌&&◌, None, IfOk, IfErr};
 ghost use Rattle.domain_descriptor.specs.Fields.{AreData, AreNoData};
 ghost use Rattle.domain_descriptor.specs.Table.{compresses_names, known_fields};
 ghost use Rattle.domain_descriptor.specs.Rdatas.{rdata_kinds, rdata_type, rdata_class};

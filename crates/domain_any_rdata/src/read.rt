@@ -3,7 +3,6 @@ ghost use Rattle.std.specs.Prelude.{true};
 ghost use Rattle.domain_any_rdata.specs.Reading.{InternetDataAt, NoInternetData, internet_data_reading};
 
 use crate::all::AllRecordData;
-use domain_descriptor::{DataFault, Rdata};
 use domain_header::Class;
 use domain_rdata::{LongRecordData, ParseAnyRecordData, ParseRecordData, Rtype};
 use domain_wire::ParseError;

@@ -10,11 +10,10 @@ use Rattle.domain_reading.specs.Grammar.{Names, EncodingEnds}
 use Rattle.domain_reading.specs.Grammar.Stop.{root as stop_root}
 use Rattle.domain_descriptor.proofs.Moving.{moved, form_moved}
 use Rattle.domain_descriptor.proofs.Whole.{field_inside, field_whole, name_alone}
-use Rattle.domain_descriptor.specs.declared.form.FieldForm.{FieldForm}
 use Rattle.domain_descriptor.specs.declared.form.FieldForm.TheVariants as reading
 use Rattle.domain_descriptor.specs.declared.kind.FieldKind.{FieldKind}
 use Rattle.domain_descriptor.specs.declared.kind.FieldKind.TheVariants as kinds
-use Rattle.domain_descriptor.specs.Fields.{FormAt, FieldAt, FieldsAt}
+use Rattle.domain_descriptor.specs.Fields.{FieldAt, FieldsAt}
 use Rattle.domain_descriptor.specs.Forms.{form}
 use Rattle.domain_rdata_text.specs.Forms.{text_form}
 use Rattle.domain_rdata_text.specs.Laws.{AreOctets}

@@ -1,7 +1,7 @@
 use Rattle.std.proofs.Common.{◌∙◌, false, length, sym, ap}
 use Rattle.domain_parsed.specs.ParsedNames.{parsed_labels}
 use Rattle.domain_fields.specs.Parts.{Part, part_octets}
-use Rattle.domain_any_rdata.proofs.Named.{named_part, octets_part}
+use Rattle.domain_any_rdata.proofs.Named.{named_part}
 use Rattle.domain_any_rdata.proofs.len.field_len.Goals as goal
 
 pub returns-in-Some : goal.returns-in-Some
