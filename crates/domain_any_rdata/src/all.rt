@@ -16,9 +16,9 @@ use domain_descriptor::{DataFault, Rdata, compresses_names, fields_of};
 use domain_header::Class;
 use domain_rdata::{CanonicalRecordData, ComposeRecordData, Composer, RecordData, Rtype};
 
-/// The data of a record in a message: octets that are the fields of its type, and no more. No octet is copied.
+/// The data of a record in a message: exactly the fields of its type. It borrows the octets.
 ///
-/// Data of which nothing is known is one field of octets (RFC 3597).
+/// Data of an unknown type or class is one field of octets (RFC 3597).
 #[derive(Clone, Copy, Debug)]
 pub struct AllRecordData<'m> {
     rdata: Rdata<'m>,
@@ -29,12 +29,11 @@ pub struct AllRecordData<'m> {
 impl<'m> AllRecordData<'m> {
     ghost use Rattle.domain_any_rdata.specs.AllData.{IsAllData, data_of, data_type, data_class, is_known_data, has_lowered_names};
 
-    /// The data of this type in this class that the octets from `begin` to the end of the message are (RFC 1035,
-    /// 3.2.1).
+    /// Reads the octets from `begin` to the end of the message as data of this type in this class (RFC 1035, 3.2.1).
     ///
     /// # Errors
     ///
-    /// The first error from the left, as [`domain_descriptor::check_data`] has it.
+    /// Returns the first error from the left, like [`domain_descriptor::check_data`].
     pub fn parse(
         rtype: Rtype,
         class: Class,
@@ -55,29 +54,29 @@ impl<'m> AllRecordData<'m> {
         }
     }
 
-    /// The fields, and what they are: a type that is `Copy`.
+    /// Returns the type, the class and the fields.
     pub fn rdata(&self) -> Rdata<'m>
         ensures { result ≡ data_of self.now }
     {
         self.rdata
     }
 
-    /// The class of the record.
+    /// Returns the class of the record.
     pub fn class(&self) -> Class
         ensures { class_number result ≡ data_class self.now }
     {
         Class::from_int(self.rdata.class())
     }
 
-    /// Whether the fields of such data are known: the type is in the table, and has fields in this class.
+    /// Returns whether the fields are known: the table has the type, with fields in this class.
     pub fn is_known(&self) -> bool
         ensures { result ≡ is_known_data self.now }
     {
         fields_of(self.rdata.rtype(), self.rdata.class()).is_some()
     }
 
-    /// Whether the canonical form has names in lowercase (RFC 4034, 6.2; RFC 6840, 5.1): those of a type that isn't
-    /// known in this class are octets like others.
+    /// Returns whether the canonical form has names in lowercase (RFC 4034, 6.2; RFC 6840, 5.1). If the fields aren't
+    /// known, neither is which octets are names.
     pub(crate) fn lowers_names(&self) -> bool
         ensures { result ≡ has_lowered_names self.now }
     {
@@ -85,7 +84,7 @@ impl<'m> AllRecordData<'m> {
     }
 }
 
-/// The number of the type that the record has.
+/// The type of the record.
 impl<'m> RecordData for AllRecordData<'m> {
     ghost use Rattle.domain_any_rdata.specs.AllData.{data_type};
 
@@ -96,7 +95,7 @@ impl<'m> RecordData for AllRecordData<'m> {
     }
 }
 
-/// The fields one after the other. Names are written shorter in data of the types of RFC 1035 alone (RFC 3597, 4).
+/// The fields, one after another. Names are compressed for the types of RFC 1035 alone (RFC 3597, 4).
 impl<'m> ComposeRecordData for AllRecordData<'m> {
     ghost use Rattle.domain_any_rdata.specs.AllData.{data_type, data_parts, known_form};
 
@@ -142,7 +141,7 @@ impl<'m> ComposeRecordData for AllRecordData<'m> {
     ghost writes_composed = { λ it. parts_write (data_parts it) (composed_form (compresses_names (data_type it))) };
 }
 
-/// The names are known where the fields are.
+/// The names are known if the fields are.
 impl<'m> CanonicalRecordData for AllRecordData<'m> {
     fn knows_names(&self) -> bool {
         self.is_known() || !self.rtype().has_lowercase_names()

@@ -1,4 +1,4 @@
-//! Record data is composed by one loop over its fields: names as names, and all else as its octets.
+//! Composes record data by one loop over its fields: names as names, all other fields as their octets.
 ghost use Rattle.std.specs.Prelude.{◌≡◌, ◌≤◌, ◌<◌, length, OnOk, OnErr};
 ghost use Rattle.octseq.specs.Appending.{TooFull};
 ghost use Rattle.domain_label.specs.Wire.{wire};
@@ -18,7 +18,7 @@ use domain_rdata::Composer;
 use domain_traits::ToName;
 use octseq::{Octets, OctetsBuilder, Truncate};
 
-/// Appends a name with no pointer, in lowercase if so, or nothing.
+/// Appends an uncompressed name, in lowercase if `lowercase`. An error leaves the octets unchanged.
 fn append_whole<T: Composer>(
     name: &ParsedName<&[u8]>,
     lowercase: bool,
@@ -42,7 +42,7 @@ fn append_whole<T: Composer>(
     }
 }
 
-/// Appends a name in this form, or nothing.
+/// Appends a name in this form. An error leaves the octets unchanged.
 fn append_name<T: Composer>(
     name: &ParsedName<&[u8]>,
     how: NameForm,
@@ -68,7 +68,7 @@ fn append_name<T: Composer>(
     }
 }
 
-/// Appends a field, or nothing: a name in this form, and any other field as its octets.
+/// Appends a field: a name in this form, any other field as its octets. An error leaves the octets unchanged.
 fn append_field<T: Composer>(
     field: &Field<'_>,
     how: NameForm,
@@ -91,7 +91,7 @@ fn append_field<T: Composer>(
     }
 }
 
-/// Appends data, or nothing: its fields one after the other, names in this form.
+/// Appends the fields, one after another, with names in this form. An error leaves the octets unchanged.
 pub(crate) fn compose_fields<T: Composer>(
     rdata: &Rdata<'_>,
     how: NameForm,

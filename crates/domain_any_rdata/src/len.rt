@@ -1,4 +1,4 @@
-//! How many octets record data has with no name compressed.
+//! The length of record data with no name compressed.
 ghost use Rattle.std.specs.Prelude.{◌≡◌, ◌<◌, ◌↔◌, length, false, IfSome, IsNone};
 ghost use Rattle.domain_fields.specs.Parts.{part_octets, parts_octets};
 ghost use Rattle.domain_any_rdata.specs.Parts.{part_of, rdata_parts};
@@ -6,7 +6,7 @@ ghost use Rattle.domain_any_rdata.specs.Parts.{part_of, rdata_parts};
 use domain_descriptor::{Field, Rdata};
 use domain_list::NameLabels;
 
-/// How many octets a field has, its name with no pointer.
+/// Returns the length of a field: for a name, that of its uncompressed encoding.
 fn field_len(field: &Field<'_>) -> usize
     ensures { result ≡ length (part_octets false (part_of field.now)) }
 {
@@ -16,7 +16,7 @@ fn field_len(field: &Field<'_>) -> usize
     }
 }
 
-/// How many octets data has with no name compressed. `None` exactly where there are more than 65,535.
+/// Returns the length with no name compressed, or `None` if it exceeds 65,535.
 pub(crate) fn uncompressed_len(rdata: &Rdata<'_>) -> Option<u16>
     ensures some { IfSome result (λ n. length (parts_octets false (rdata_parts rdata.now)) ≡ n) }
     ensures none { IsNone result

@@ -1,10 +1,10 @@
-//! How names in record data are composed.
+//! The form of names in composed record data.
 
-/// How the names in record data are composed.
+/// The form of the names in composed record data.
 #[derive(Clone, Copy, Debug)]
 pub enum NameForm {
-    /// As the target writes them, which may be shorter (RFC 1035, 4.1.4).
+    /// As the target writes them, compressed if it does so (RFC 1035, 4.1.4).
     Compressed,
-    /// With no pointer, in lowercase if so (RFC 4034, 6.2).
+    /// Uncompressed, in lowercase if `true` (RFC 4034, 6.2).
     Whole(bool),
 }

@@ -1,4 +1,4 @@
-//! Data of any type where a parser stands. The traits have no class, so it is read as data of class IN.
+//! Reads data of any type from a parser. The traits have no class, so the data is read as that of class IN.
 ghost use Rattle.std.specs.Prelude.{true};
 ghost use Rattle.domain_any_rdata.specs.Reading.{InternetDataAt, NoInternetData, internet_data_reading};
 
@@ -8,7 +8,7 @@ use domain_rdata::{LongRecordData, ParseAnyRecordData, ParseRecordData, Rtype};
 use domain_wire::ParseError;
 use octseq::Parser;
 
-/// All remaining octets, at most 65,535, are the fields of the type. An error comes as the type's own reader has it.
+/// Reads all remaining octets, at most 65,535, as the fields of the type. Errors are those of the type's own reader.
 impl<'m> ParseAnyRecordData<'m> for AllRecordData<'m> {
     ghost use Rattle.domain_any_rdata.specs.AllData.{SeenData, seen_data};
 
@@ -39,7 +39,7 @@ impl<'m> ParseAnyRecordData<'m> for AllRecordData<'m> {
     ghost lawful = { internet_data_reading };
 }
 
-/// The same: each type has such data.
+/// The same, which reads data of each type.
 impl<'m> ParseRecordData<'m> for AllRecordData<'m> {
     ghost use Rattle.domain_any_rdata.specs.AllData.{SeenData, seen_data};
 

@@ -1,4 +1,4 @@
-//! What is composed for data of any type is read as the same data.
+//! The law that composed data of any type is read back.
 ghost use Rattle.domain_descriptor.specs.Table.{compresses_names};
 ghost use Rattle.domain_any_rdata.specs.Back.{SeenAt, IsLike};
 ghost use Rattle.domain_any_rdata.specs.Composing.{composed_form, parts_move};
@@ -6,11 +6,10 @@ ghost use Rattle.domain_any_rdata.specs.Composing.{composed_form, parts_move};
 use crate::all::AllRecordData;
 use domain_fields::ReadBackData;
 
-/// Data of the same type in the same class: names are equal, ignoring ASCII case, and other fields have the same
-/// octets.
+/// [`AllRecordData::parse`] reads the composed octets as data of the same type in the same class: names are equal,
+/// ignoring ASCII case, and other fields have the same octets.
 ///
-/// It is what [`AllRecordData::parse`] reads of the octets as data of that class. Whatever stands before it in the
-/// message, and however the names in it were compressed, it is read so.
+/// It does so whatever precedes the octets in the message, and however their names were compressed.
 impl<'m> ReadBackData for AllRecordData<'m> {
     ghost use Rattle.domain_any_rdata.specs.AllData.{data_type, data_parts, SeenData};
 

@@ -24,7 +24,7 @@ pub enum DataFault {
     TrailingData,
 }
 
-/// Short input stays that, a name's fault is its own error, and the others are form errors with their text.
+/// Short input remains short input, a name's fault becomes its own error, and all others form errors with a text.
 impl From<DataFault> for ParseError {
     ghost use Rattle.std.specs.Prelude.{◌≡◌};
     ghost use Rattle.domain_wire.specs.Refusals.{refusal};

@@ -6,7 +6,7 @@ ghost use Rattle.domain_descriptor.specs.Stops.{field_stop};
 /// Facts on record data. The call does nothing: its contract is the facts.
 ///
 /// Fields of some kinds end at one offset. Where they are, none of them is missing; and octets that are data are no
-/// others. Octets that aren't data have one first error. A field ends where the function of the octets says.
+/// others. Octets that aren't data have one first error. `field_stop` is where a field ends.
 pub fn data_laws()
     ensures once { (kinds m p e f : _) → FieldsAt kinds m p e → FieldsAt kinds m p f → e ≡ f }
     ensures fields { (kinds m p e why : _) → FieldsAt kinds m p e → FieldsFault kinds m p why → ⊥ }

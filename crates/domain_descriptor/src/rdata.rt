@@ -62,7 +62,7 @@ impl<'m> Rdata<'m> {
         }
     }
 
-    /// Octets that are known to be such data, which aren't tested again.
+    /// Returns the data in octets that are known to be such data. They aren't checked again.
     pub fn of_whole(rtype: u16, class: u16, message: &'m [u8], begin: usize) -> Rdata<'m>
         requires inside { begin ≤ length message.now }
         requires whole { (why : DataFault) → AreNoData (known_fields rtype class) message.now begin why → ⊥ }
@@ -78,7 +78,7 @@ impl<'m> Rdata<'m> {
         }
     }
 
-    /// The law that the octets are fields of its kinds, and no more. It reads them again, and returns nothing.
+    /// The law that the octets are exactly fields of its kinds. It checks them again and returns nothing.
     #[tactic(auto, using(crate::proofs::Whole::no_field_fault, crate::proofs::Whole::none_after, crate::proofs::Steps::whole_data))]
     pub fn reads_again(&self)
         ensures { AreData (rdata_kinds self.now) (rdata_message self.now) (rdata_begin self.now) }
