@@ -3,6 +3,11 @@ pub mod Naming
 pub mod Composed
 pub mod Lengths
 pub mod Forms
+pub mod Same
 pub mod Back
 pub mod ReadingBack
+pub mod Cutting
+pub mod Owning
+pub mod Viewing
 pub mod Internet
+pub mod Keyed

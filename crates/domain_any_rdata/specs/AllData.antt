@@ -51,3 +51,7 @@ known_form it = if is_known_data it then Some (parts_octets true (data_parts it)
 -- whether the canonical form has names in lowercase (RFC 4034, 6.2; RFC 6840, 5.1)
 abbrev pub has_lowered_names : AllRecordData → Bool
 has_lowered_names it = is_known_data it && has_lowercase_names (data_type it)
+
+-- the octets of the canonical form
+abbrev pub canonical_octets : AllRecordData → List ℕ
+canonical_octets it = parts_octets (has_lowered_names it) (data_parts it)

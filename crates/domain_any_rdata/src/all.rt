@@ -7,7 +7,7 @@ ghost use Rattle.domain_header.specs.Values.{class_number};
 ghost use Rattle.domain_rdata.specs.Rtypes.{rtype_number};
 ghost use Rattle.domain_fields.specs.Parts.{parts_octets};
 ghost use Rattle.domain_any_rdata.specs.Composing.{PartsComposed, parts_written, parts_write, composed_form, type_plain, type_flat};
-ghost use Rattle.domain_any_rdata.specs.Parts.{AreNamed, AreNamed_prop, rdata_parts};
+ghost use Rattle.domain_any_rdata.specs.Parts.{AreNamed, AreNamed_prop, CantBeOthers, IsDataOf, parts_at, rdata_parts};
 
 use crate::compose::compose_fields;
 use crate::len::uncompressed_len;
@@ -23,6 +23,7 @@ use domain_rdata::{CanonicalRecordData, ComposeRecordData, Composer, RecordData,
 pub struct AllRecordData<'m> {
     rdata: Rdata<'m>,
     ghost known: { rdata_kinds rdata ≡ known_fields (rdata_type rdata) (rdata_class rdata) },
+    ghost certain: { IsDataOf rdata },
     ghost named: { AreNamed (rdata_parts rdata) } by { AreNamed_prop (rdata_parts rdata) },
 }
 
@@ -51,6 +52,23 @@ impl<'m> AllRecordData<'m> {
         match Rdata::parse(rtype.to_int(), class.to_int(), message, begin) {
             Ok(rdata) => Ok(AllRecordData { rdata }),
             Err(fault) => Err(fault),
+        }
+    }
+
+    /// Returns the data in octets that are known to be such data. They aren't checked again.
+    pub(crate) fn of_whole(
+        rtype: u16,
+        class: u16,
+        message: &'m [u8],
+        begin: usize,
+    ) -> AllRecordData<'m>
+        requires inside { begin ≤ length message.now }
+        requires certain { CantBeOthers (known_fields rtype class) message.now begin }
+        requires named { AreNamed (parts_at (known_fields rtype class) message.now begin) }
+        ensures { IsAllData rtype class message.now begin result }
+    {
+        AllRecordData {
+            rdata: Rdata::of_whole(rtype, class, message, begin),
         }
     }
 
