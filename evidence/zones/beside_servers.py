@@ -431,8 +431,8 @@ def page(trials, cases, left, versions):
         f"table, each loaded into each server, and {asked:,} questions to them. {left} zones are left out: the data "
         "of an NS record there is no name, which the table doesn't ask for and no server loads.",
         "A response agrees where these are as in the table: its AA bit, its response code, the RRsets that the answer "
-        "names, with their data, the TTLs of RRSIG records, and the TTL of a negative SOA. What follows after an alias isn't "
-        "compared. The last column is the referrals with the same addresses in the additional section. The table's "
+        "names, with their data, the TTLs of RRSIG records, and the TTL of a negative SOA. What follows after an alias "
+        "isn't compared. The last column is the referrals with the same addresses in the additional section. The table's "
         "have all that the zone has at the name servers (RFC 1034, 4.3.2, step 3b; RFC 9471, 3). NSD and Knot DNS "
         "also make some from a wildcard, and BIND leaves out those that aren't below the cut.",
     ]

@@ -1,9 +1,11 @@
 //! The sections of a response, as text.
 
-use crate::zones::RRSIG;
 use conformance_labels::Answer;
 use domain_list::DisplayWithDot;
 use domain_zone_answer::{Response, SectionRrset};
+
+/// The type of RRSIG records, which have TTLs of their own.
+pub const RRSIG: u16 = 46;
 
 /// Appends the TTL of an RRset of a section, or those of RRSIG records with `+` between.
 fn put_ttls(out: &Answer, set: SectionRrset<'_>) {

@@ -2,16 +2,13 @@
 
 use crate::answers::{put_name, put_outcome};
 use crate::fields::name_of;
-use crate::sections::put_sections;
+use crate::sections::{RRSIG, put_sections};
 use conformance_labels::{Answer, Fail, is, number_up_to, octets_of, split_once};
 use domain_header::Class;
 use domain_zone::{BuildError, InsertError, Owner, Zone, ZoneBuilder};
 use domain_zone_answer::respond;
 use domain_zone_laws::ttl::record_ttl;
 use domain_zone_laws::zone::Rrset;
-
-/// The type of RRSIG records, which have TTLs of their own.
-pub const RRSIG: u16 = 46;
 
 /// `zone APEX RECORDS QUESTIONS`
 pub fn put_zone(out: &Answer, apex: &[u8], records: &[u8], questions: &[u8]) {

@@ -7,8 +7,9 @@ ghost use Rattle.domain_zone_laws.specs.Zone.{lowest_covered, record_ttl};
 use crate::zone::{Rrset, SignatureTtl};
 use domain_list::ToLabelIter;
 
-/// Returns the type that an RRSIG record with these data covers, and 0 where they are shorter than two octets
-/// (RFC 4034, 3.1.1).
+/// Returns the type that an RRSIG record with these data covers (RFC 4034, 3.1.1).
+///
+/// Data shorter than two octets cover none. It returns 0 for them, which is no type of data.
 pub fn covered_type(octets: &[u8]) -> u16
     ensures { result ≡ covered_type octets.now }
 {
@@ -51,8 +52,8 @@ pub fn lowest_covered(covered: u16, signatures: &[SignatureTtl]) -> Option<u32>
 
 /// Returns the TTL of the record of an RRset with these data, in seconds.
 ///
-/// It is the TTL of the RRset. RRSIG records have a TTL for each type that they cover: that of the RRset they cover,
-/// in a zone as RFC 4034, 3, demands it.
+/// That is the TTL of the RRset. RRSIG records have a TTL for each type that they cover, since theirs must match the
+/// TTL of the RRset that they cover (RFC 4034, 3). If `signature_ttls` has none for that type, it is `ttl`, too.
 pub fn record_ttl<'a, N: ToLabelIter<'a>>(set: &'a Rrset<N>, octets: &[u8]) -> u32
     ensures { result ≡ record_ttl (rrset N.labels set.now) octets.now }
 {
