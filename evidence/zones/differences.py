@@ -145,12 +145,18 @@ def exceeds(response, form):
 
 def is_cut_twice(it):
     is_cut = it.ours.tc and it.theirs.tc and exceeds(it.our_whole, it.query.form)
-    return is_cut and it.zone.has(records(it.theirs) - records(it.their_whole))
+    is_known = it.theirs.rcode in (it.ours.rcode, it.our_whole.rcode)
+    return is_cut and is_known and it.zone.has(records(it.theirs) - records(it.their_whole))
+
+
+def is_cut_there(it):
+    is_longer = it.theirs.tc and not it.ours.tc and exceeds(it.their_whole, it.query.form)
+    return is_longer and records(it.theirs) <= records(it.their_whole)
 
 
 def is_cut_here(it):
     """Whether the server sends the whole response, and more addresses of the zone at most."""
-    is_whole = (it.theirs.answer, it.theirs.authority) == (it.our_whole.answer, it.our_whole.authority)
+    is_whole = all(getattr(it.theirs, part) == getattr(it.our_whole, part) for part in ("rcode", *SECTIONS[:2]))
     is_cut = it.ours.tc and not it.theirs.tc and exceeds(it.our_whole, it.query.form)
     return is_cut and is_whole and it.zone.has(it.theirs.additional)
 
@@ -171,6 +177,13 @@ def explains(it):
     """Whether the OPT record differs in extended errors alone."""
     (size, flags, ours), (*its, theirs) = it.ours.opt or (0, 0, ()), it.theirs.opt or (0, 0, ())
     return it.ours.opt and [size, flags] == its and not ours and all(one.startswith("EDE ") for one in theirs)
+
+
+def is_one_cover(it):
+    """Whether the server answers with the RRSIGs that cover one type. Those of the program must be the zone's."""
+    types = {one[3].covers() for one in it.theirs.answer}
+    ours = frozenset(one for one in it.ours.answer if one[3].covers() in types)
+    return it.rtype == RRSIG and len(types) == 1 and it.theirs.answer == ours and it.zone.has(it.ours.answer)
 
 
 # A class of differences: the servers, the parts of a response, a test of the difference, and the reason.
@@ -209,6 +222,13 @@ CLASSES = [
         is_any,
         "A question for ANY may be answered with one RRset or more, at the server's choice (RFC 8482, 4.1). "
         "`dnszone` returns the RRset of the lowest type, the server another one or all of them.",
+    ),
+    (
+        "knotd",
+        "answer",
+        is_one_cover,
+        "The RRSIGs of an owner belong to the RRsets that they cover (RFC 4034, 3). Knot DNS answers a question for "
+        "RRSIG with those of one RRset, `dnszone` and the others with all.",
     ),
     (
         "named",
@@ -282,14 +302,21 @@ CLASSES = [
     ),
     (
         ALL,
-        "answer authority additional",
+        "rcode answer authority additional",
         is_cut_twice,
         "With TC set, a client ignores the response and asks again over a stream (RFC 2181, 9), so which of its "
         "records are there is the server's choice.",
     ),
     (
         ALL,
-        "tc answer authority additional",
+        "rcode tc answer authority additional",
+        is_cut_there,
+        "The server answers a chain of aliases in one message, which a datagram has no room for, so TC is set (RFC "
+        "1035, 4.2.1). `dnszone` answers each question in a message of its own.",
+    ),
+    (
+        ALL,
+        "rcode tc answer authority additional",
         is_cut_here,
         "The response fits a datagram only with the names in data compressed, which no sender must do (RFC 1035, "
         "4.1.4). `dnszone` doesn't, and sets TC.",

@@ -10,9 +10,10 @@ INTRO = [
     "`evidence/zones/beside_servers.py` loads zones into name servers on loopback, and sends them and `dnszone` the "
     "same queries. It wrote this page on {day}. {program}",
     "The zones are {texts} texts ([texts.py](texts.py)): those of RFC 4592, 2.2.1, and RFC 1034, 6.1, some for each "
-    "rule of a lookup, one that is signed, and four that are drawn from fixed seeds. To these come {cases:,} zones of "
-    "the conformance table ([conformance_zones](../../crates/conformance_zones/README.md)), with the questions there. "
-    "{left} zones of the table are left out: the data of an NS record there is no name, and no server loads them.",
+    "rule of a lookup, one that is signed, and four that are drawn from fixed seeds. To these come the first "
+    "{cases:,} zones of the conformance table "
+    "([conformance_zones](../../crates/conformance_zones/README.md)), with the questions there. "
+    "Of these the run left out {left}: the data of an NS record there is no name, and no server loads them.",
     "Each of the {questions:,} questions is sent in {forms} forms: {titles}. Compared are the response code of twelve "
     "bits, the identifier, the opcode and all flags, TC, the question with the case of its letters, the OPT record, "
     "and the answer, authority and additional sections as sets of records: owner, TTL, type and data. Case is ignored "
@@ -58,7 +59,7 @@ def intro(zones, left, kind):
         "day": datetime.date.today(),
         "program": KINDS[kind],
         "texts": texts,
-        "cases": len(zones) - texts,
+        "cases": len(zones) - texts + left,
         "left": left,
         "questions": sum(len(it.sent) for it in zones) // len(FORMS),
         "ask": "" if kind == "second" else ASK.format(asks=asks),
