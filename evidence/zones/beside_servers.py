@@ -84,7 +84,7 @@ def run(words, servers):
     trial = differences.Trial()
     zones, left = all_zones(words)
     if words.second:
-        zones = [it for it in zones if not program.has_dots(it)]
+        zones = [it for it in zones if not program.has_escapes(it)]
         program.fill_second(zones)
     else:
         trial.unlisted += program.fill(zones, None if words.unproved else words.program.resolve())

@@ -34,7 +34,7 @@ KINDS = {
     "unproved": "The program was a build of these sources without their proofs (`rt try`).",
     "second": "In this run the second writer of responses "
     "([conformance_responses](../../crates/conformance_responses/README.md)) answered in place of the program: "
-    "`evidence/responses/check.py` compares the two octet by octet. It knows no dots in labels, so the zone of "
+    "`evidence/responses/check.py` compares the two octet by octet. It knows no backslash in names, so the zone of "
     "special characters was left out.",
 }
 LIMITS = [

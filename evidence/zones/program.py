@@ -81,9 +81,9 @@ def fault_of(zone, question, asked):
     return None if asked == said else f"{where}: `ask` prints {asked}, `answer` {said}"
 
 
-def has_dots(zone):
-    """Whether a label has a dot, which the second writer doesn't know."""
-    return any(b"." in label for it in zone.queries for label in it.name.labels)
+def has_escapes(zone):
+    """Whether the text of a name has a backslash, which the second writer doesn't know."""
+    return any("\\" in it.to_text() for it in (*zone.owners, *(one.name for one in zone.queries)))
 
 
 def fill_second(zones):
