@@ -23,7 +23,7 @@ pub const DNSNAMES_MAX_MNEMONIC: usize = 12;
 /// The octets of a key of [`dnsnames_hash`].
 pub const DNSNAMES_KEY_LEN: usize = 16;
 /// The version of these declarations; [`dnsnames_version`] returns that of the library.
-pub const DNSNAMES_VERSION: &str = "0.6.0";
+pub const DNSNAMES_VERSION: &str = "0.7.0";
 
 /// What a call returns: one of the constants below, which say why it refuses.
 pub type dnsnames_status = u32;
