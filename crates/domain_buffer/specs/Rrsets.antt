@@ -29,10 +29,11 @@ abbrev pub pieces : List ℕ → List ℕ → List (List ℕ)
 pieces [] octets = []
 pieces (n ∷ ns) octets = take n octets ∷ pieces ns (drop n octets)
 
--- Names may be compressed in data of this type, and these are its fields; or they may not.
+-- Names may be compressed in these data of this type, and what is said holds of their fields.
 abbrev pub HasNames : ℕ → List ℕ → (Fields → Type 0) → Type 0
 HasNames rtype rdata With = (f : Fields) × IsNamed rtype f × (whole f ≡ rdata) × With f
 
+-- No names may be compressed in them.
 abbrev pub HasNoNames : ℕ → List ℕ → Type 0
 HasNoNames rtype rdata = (f : Fields) → IsNamed rtype f → whole f ≡ rdata → ⊥
 
@@ -48,11 +49,12 @@ RefusesAny section owner head rdata o b why =
     HasNames head.rtype rdata (λ f. RefusesNamed section owner f o b why)
     ⊎ (HasNoNames head.rtype rdata × RefusesData section owner rdata o b why)
 
--- The same of a buffer and its builder.
+-- A record was pushed, of a buffer and its builder.
 abbrev pub PushesOne : Section → (owner : List ℕ) → RecordHead → (rdata : List ℕ) → Built → Built → Type 0
 PushesOne section owner head rdata old new =
     PushesAny section owner head rdata old.octets old.builder new.octets new.builder
 
+-- It wasn't, and why.
 abbrev pub RefusesOne : Section → (owner : List ℕ) → RecordHead → PushFault → (rdata : List ℕ) → Built → Type 0
 RefusesOne section owner head why rdata old =
     RefusesAny section owner head rdata old.octets old.builder why

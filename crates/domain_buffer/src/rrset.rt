@@ -109,6 +109,16 @@ pub fn push_rrset(
     Ok(())
 }
 
+/// Whether it is for lack of room.
+fn is_for_room(fault: PushFault) -> bool
+    ensures { IsTrue result ↔ (fault ≡ NoRoom) }
+{
+    match fault {
+        PushFault::NoRoom => true,
+        PushFault::LaterSection | PushFault::FullSection => false,
+    }
+}
+
 /// Sets the bit TC.
 fn set_tc(builder: &mut Builder)
     ensures { builder.new ≡ marked_cut builder.old }
@@ -143,11 +153,13 @@ pub fn push_required(
 {
     match push_rrset(octets, builder, section, owner, head, data, lens) {
         Ok(()) => Ok(true),
-        Err(PushFault::NoRoom) => {
+        Err(fault) => {
+            if !is_for_room(fault) {
+                return Err(fault);
+            }
             set_tc(builder);
             Ok(false)
         }
-        Err(fault) => Err(fault),
     }
 }
 
@@ -174,9 +186,8 @@ pub fn push_extra(
     ensures same { SameMessage octets.old builder.old octets.new }
     ensures unchanged { OnErr result (builder.new ≡ builder.old) }
 {
-    match push_rrset(octets, builder, section, owner, head, data, lens) {
-        Ok(()) => Ok(true),
-        Err(PushFault::NoRoom) => Ok(false),
-        Err(fault) => Err(fault),
-    }
+    let Err(fault) = push_rrset(octets, builder, section, owner, head, data, lens) else {
+        return Ok(true);
+    };
+    if is_for_room(fault) { Ok(false) } else { Err(fault) }
 }
