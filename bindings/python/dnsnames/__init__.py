@@ -27,8 +27,8 @@ for _public in (
     BadEscape, BadForm, BadLabelType, BadSymbol, BinaryLabel, CompressedName, DnsError, EmptyLabel, LongLabel, LongName,
     NoBuilder, NoField, NoLabel, NoMnemonic, NoRoom, RelativeName, ShortInput, TooManyEntries, TooManyPointers,
     TrailingData, WrongOrder,
-    Mark, MessageBuilder, Class, Flags, Opcode, Rcode, Type, Composer, EdnsOption, Header, Message, Opt, Question, Record,
-    Name, Reading, read, skip,
+    Mark, MessageBuilder, Class, Flags, Opcode, Rcode, Type, Composer, EdnsOption, Header, Message, Opt, Question,
+    Record, Name, Reading, read, skip,
 ):
     _public.__module__ = __name__
 del _public

@@ -61,13 +61,13 @@ def _rrset(
     section: str, name: AnyName, type: AnyType, datas: Iterable[Octets], ttl: int, class_: AnyClass
 ) -> Tuple[Any, ...]:
     """What the library takes of an RRset."""
-    owner, each = bytes(as_name(name)), [as_octets(data) for data in datas]
+    number, owner, each = _section(section), bytes(as_name(name)), [as_octets(data) for data in datas]
     if any(len(data) > 65535 for data in each):
         raise ValueError("data have at most 65,535 octets")
     whole, lens = b"".join(each), (c_uint16 * len(each))(*map(len, each))
     return (
-        _section(section), owner, len(owner), as_number(Type, type), as_number(Class, class_), _word(ttl, 32), whole,
-        len(whole), lens, len(each),
+        number, owner, len(owner), as_number(Type, type), as_number(Class, class_), _word(ttl, 32), whole, len(whole),
+        lens, len(each),
     )
 
 
@@ -191,9 +191,9 @@ class MessageBuilder:
         a.example. 60 MX b.example.
         b.example. 60 A
         """
-        owner, octets = bytes(as_name(name)), as_octets(data)
+        number, owner, octets = _section(section), bytes(as_name(name)), as_octets(data)
         self._call(
-            library.dnsnames_builder_record, _section(section), owner, len(owner), as_number(Type, type),
+            library.dnsnames_builder_record, number, owner, len(owner), as_number(Type, type),
             as_number(Class, class_), _word(ttl, 32), octets, len(octets),
         )
 
