@@ -8,7 +8,7 @@ import sys
 sys.path.insert(0, str(pathlib.Path(__file__).resolve().parents[1] / "conformance_messages"))
 import second as messages
 
-OPT, SERVICES = 41, (64, 65)
+SERVICES = (64, 65)
 # These types have their fields in class IN alone (RFC 1035, 3.4; RFC 2163, 2230, 2782, 3596 and 9460).
 OF_INTERNET = (1, 26, 28, 33, 36, 64, 65)
 REMEMBERED, FARTHEST = 128, 0x3FFF
@@ -21,7 +21,6 @@ PARAMETERS = "service parameters, whose text make doesn't read"
 NAME = "a name in data with an octet that has a meaning in a zone, and no backslash before it"
 EMPTY = "a digest or a key without octets, so without a word"
 LONG = "a longer message than 65,535 octets, where the names in its data are whole"
-OF_OPT = "an OPT record in the additional section: make refuses its lines"
 
 
 class Refused(Exception):
@@ -122,10 +121,8 @@ def made_of(octets):
     for name, rtype, rclass in questions:
         writer.name(name)
         writer.numbers((rtype, 2), (rclass, 2))
-    for section, entries in enumerate(records):
-        for owner, rtype, rclass, ttl, data in entries:
-            if (section, owner, rtype) == (2, [], OPT):
-                raise Refused(OF_OPT)
+    for section in records:
+        for owner, rtype, rclass, ttl, data in section:
             said = data_of(rtype, rclass, data)
             writer.name(owner)
             writer.numbers((rtype, 2), (rclass, 2), (ttl, 4), (len(said), 2))
