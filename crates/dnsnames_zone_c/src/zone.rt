@@ -15,11 +15,11 @@ use octseq::Octets;
 use std::alloc::Global;
 
 /// Puts the zone into the slot, and frees the one that it held.
-fn replace(alloc: Global, slot: &mut ZoneSlot, zone: Box<Zone>)
+fn replace(alloc: Global, slot: &mut ZoneSlot, new: Box<Zone>)
     ensures { IsHeld slot.new.held }
 {
     let _old = slot.take(alloc);
-    slot.put(zone);
+    slot.put(new);
 }
 
 /// Reads the text of a zone into a slot (RFC 1035, 5). Relative names go on with the origin, a name in wire format, and
@@ -132,5 +132,5 @@ pub extern "C" fn dnsnames_zone_answer(
 pub extern "C" fn dnsnames_zone_free(alloc: Global, slot: &mut ZoneSlot)
     ensures { slot.new.held ≡ None }
 {
-    let _old = slot.take(alloc);
+    let _freed = slot.take(alloc);
 }
