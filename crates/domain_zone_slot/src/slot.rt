@@ -1,7 +1,9 @@
 //! A slot for a zone.
 ghost use Rattle.std.specs.Prelude.{◌≡◌, IfOk};
+ghost use Rattle.std.specs.Coded.{coded_option};
 ghost use Rattle.std.specs.declared.option.Option.{Option};
 ghost use Rattle.std.specs.declared.option.Option.TheVariants.{None, Some};
+ghost use Rattle.domain_zone.specs.contracts.kept.Zone.{the_row};
 ghost use Rattle.domain_zone.specs.declared.kept.Zone.{Zone as Held};
 ghost use Rattle.domain_zone_slot.specs.Slots.{boxed_zone, loose_zone, slot_owns};
 
@@ -21,7 +23,7 @@ use std::ptr::null_mut;
 pub struct ZoneSlot {
     at: *mut u8,
     full: usize,
-    pub ghost held: { Option Held },
+    pub ghost held: { Option Held } by { coded_option the_row.coded },
 }
 
 impl Model for ZoneSlot {
