@@ -54,7 +54,7 @@ into_loose_spec 𝓤 𝓛 𝓜 𝓡 wired =
     let hs : Stays En.signature.params En.kept = (stay_dropped (plain (λ _. S)) En.kept.0, (stay_dropped (plain (λ _. Z)) En.kept.1.0, tt)) in
     proved_at 𝓛 En hs c 𝓜 𝓡 (Goes-blank 𝓛 0 (plain (λ _. S)) En.kept.0 (λ κs x f. tt), (Goes-blank 𝓛 0 (plain (λ _. Z)) En.kept.1.0 (λ κs x f. tt), tt)) #self fn (code.unfolded 𝓤 H 𝓜 𝓡 wired) (λ z are.
     let Post : Val → SProp 𝓤 = (walk_of 𝓛 En hs c).post z in let Run : List Val → SProp 𝓤 = λ ws. WpFn 𝓤 H 𝓣.C 𝓣.Λ fn ws Post in let Out : RattleType = type_at En.signature.result z.0.0 in
-    let d = z.0.3.0 in let a = z.0.3.1.0 in let left = (rest (S.exit En.kept.0) d, (rest (Z.exit En.kept.1.0) a, tt)) in
+    let d = z.0.3.0 in let a = z.0.3.1.0 in
     qed 𝓛 ((raw (alive 𝓛 En.signature z.0.0 z.0.1) ⊛ ‵ (owns (types_at En.signature.params z.0.0) z.0.3 z.0.4)) ∷ ‵ ftrue ∷ []) ∵
     move ! (1 ∷ []) $ drop ! $ split ! $ move ! (1 ∷ []) $ fsplit ! $ slot_out ! d z.0.4.0 (λ ws low. move ! (1 ∷ []) $ fsplit ! $ move ! (1 ∷ []) $ drop ! $
     handle_tells (al R Z LZ ghosts) ! a z.0.4.1.0 (λ h eh fits.
@@ -68,7 +68,7 @@ into_loose_spec 𝓤 𝓛 𝓜 𝓡 wired =
     sets_last ! (agg ! (and_then ! (lit ! tt) (no_more !))) refl (tt, (record { fits = lit< tt }, tt)) $ exec ! 𝓣.C 𝓣.Λ Ev (after 4 fn.body) (at_ret Ev Post) $ sets ! (of_opd ! (get ! refl)) refl (tt, (record { fits = lit< tt }, tt)) $
     drop ! $ use0 𝓛 (raw (fact 𝓤 (None ≡ d.held))) (fact_i 𝓤 (None ≡ d.held) (emp 𝓤) (sym none)) $
     use0 𝓛 (‵ (Out.own_val None (live 0 vnil ∷ []))) (none_of 𝓛 Lr) $ nothing ! $ nothing ! $ fjoin ! $ nothing ! $ fjoin ! $
-    returns ! (look_at ! 0 refl) $ free_all ! refl $ move ! (3 ∷ 0 ∷ 1 ∷ 2 ∷ []) $ by ! (leaves 𝓛 En hs c z (live 0 vnil) None left (tt, (tt, tt)))) (λ wrong. absurd wrong)))
+    returns ! (look_at ! 0 refl) $ free_all ! refl $ move ! (3 ∷ 0 ∷ 1 ∷ 2 ∷ []) $ by ! (leaves 𝓛 En hs c z (live 0 vnil) None (rest (S.exit En.kept.0) d, (rest (Z.exit En.kept.1.0) a, tt)) (tt, (tt, tt)))) (λ wrong. absurd wrong)))
     (λ m b o a' x e at some. let w : Val = word (block_ptr b o) (suc m) in let made : Val = both (vptr b o) h in let it : Lr.Denot = record { at = block_ptr b o; alloc = a; value = x } in
     let typed = loose_good R Z LZ ghosts b o h fits in let v₁ : Val = live 1 (vcons made vnil) in let good : Good (layout Out) v₁ = (and_tt _ typed.0, (record { fits = lit< tt }, (typed.1, tt))) in
     let below : suc m < 2 ^ 64 = subst (λ (k : ℕ). k < 2 ^ 64) e low in
@@ -82,4 +82,4 @@ into_loose_spec 𝓤 𝓛 𝓜 𝓡 wired =
     use1 𝓛 (‵ (box_owns (ghosts.dealloc_token a) R (block_ptr b o) x)) (id⊢ 𝓤 _) $ loose_in R Z LZ ghosts ! b o h a x $
     use1 𝓛 (‵ (Out.own_val (Some it) (v₁ ∷ []))) (Some-of 𝓛 Lr it made) $ use0 𝓛 (raw (fact 𝓤 (Some x ≡ d.held))) (fact_i 𝓤 (Some x ≡ d.held) (emp 𝓤) (sym some)) $
     nothing ! $ nothing ! $ fjoin ! $ nothing ! $ fjoin ! $
-    returns ! (look_at ! 0 refl) $ free_all ! refl $ move ! (3 ∷ 0 ∷ 2 ∷ 1 ∷ []) $ by ! (leaves 𝓛 En hs c z v₁ (Some it) left (tt, (tt, tt)))))))))
+    returns ! (look_at ! 0 refl) $ free_all ! refl $ move ! (3 ∷ 0 ∷ 2 ∷ 1 ∷ []) $ by ! (leaves 𝓛 En hs c z v₁ (Some it) (rest (S.exit En.kept.0) d, (rest (Z.exit En.kept.1.0) a, tt)) (tt, (tt, tt)))))))))
