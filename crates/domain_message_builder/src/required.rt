@@ -16,9 +16,10 @@ impl<Target: Composer> MessageBuilder<Target> {
     /// Pushes an RRset that the answer can't do without, or sets the bit TC where it has no room (RFC 2181, 9).
     /// Returns whether it was pushed.
     ///
-    /// The RRsets of the answer section are required, and so are the name servers of a referral and those of their
-    /// addresses that are glue (RFC 9471, 3). Where the RRset isn't pushed, TC is all that changes, and smaller ones
-    /// may be pushed after it. A refusal for any other reason than room is an error, as of `push_rrset`, and changes
+    /// The RRsets of the answer section are required, and so are the SOA of a negative response (RFC 2308, 3), the
+    /// name servers of a referral, and the glue of those at or below the cut (RFC 9471, 3.1). Glue of others isn't
+    /// (RFC 9471, 3.2): `push_extra` is for it. Where the RRset isn't pushed, TC is all that changes, and smaller ones
+    /// can be pushed after it. A refusal for any other reason than room is an error, as of `push_rrset`, and changes
     /// nothing.
     pub fn push_required<'a, N: AbsoluteLabels<'a>, D: ComposeRecordData>(
         &mut self,
