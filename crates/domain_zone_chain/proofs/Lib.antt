@@ -1,0 +1,4 @@
+mod Evaluating
+mod Joining
+mod Leading
+mod OneChain

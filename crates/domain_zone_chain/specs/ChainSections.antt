@@ -1,0 +1,36 @@
+-- What a response has that follows a chain of questions.
+use Rattle.std.specs.Prelude.{◌≡◌, ℕ, List, [], ◌∷◌, ◌++◌, map}
+use Rattle.domain_zone_answer.specs.Sections.{Sections, AreSections}
+use Rattle.domain_zone_chain.specs.Chains.{Step, step, step_name, IsChain}
+use Rattle.domain_zone_laws.specs.Answers.{Outcome}
+use Rattle.domain_zone_laws.specs.Zone.{Zone}
+
+-- The outcome of the last question: the first has the outcome o, and these follow.
+abbrev pub last_outcome : Outcome → List Step → Outcome
+last_outcome o [] = o
+last_outcome o (x ∷ xs) = last_outcome x.outcome xs
+
+-- The sections r, and then those of a later question: its answers come after these, and the rest is its own.
+abbrev pub followed_by : Sections → Sections → Sections
+followed_by r s = record { answer = r.answer ++ s.answer; authority = s.authority; additional = s.additional }
+
+-- The sections of these questions: the answer sections one after the other, and the authority and the additional
+-- section of the last.
+abbrev pub AreChainSections : Zone → Step → List Step → Sections → Type 0
+AreChainSections z x [] all = AreSections z x.name x.outcome all
+AreChainSections z x (y ∷ ys) all =
+    (r : Sections) × (s : Sections) × AreSections z x.name x.outcome r × AreChainSections z y ys s × (all ≡ followed_by r s)
+
+-- The questions about these names follow the first, about q, which has the outcome o.
+abbrev pub IsFollowedBy : Zone → List (List ℕ) → ℕ → Outcome → List (List (List ℕ)) → Type 0
+IsFollowedBy z q t o names = (rest : List Step) × IsChain z q t (step q o ∷ rest) × (map step_name rest ≡ names)
+
+-- The response to a question about q: `first` is its outcome, and `last` that of the last question of its chain. AA is
+-- that of the first, which has the first owner of the answer section (RFC 1035, 4.1.1), and the response code that of
+-- the last (RFC 6604, 3). An alias that isn't followed, as its target is out of the zone, was asked about, or is past
+-- the limit, is the last: it has NOERROR, and no authority and no additional section.
+pub record Follows (z : Zone) (q : List (List ℕ)) (t : ℕ) (first last : Outcome) (all : Sections) : Type 0 where
+  pub rest : List Step
+  pub chain : IsChain z q t (step q first ∷ rest)
+  pub last_is : last ≡ last_outcome first rest
+  pub sections : AreChainSections z (step q first) rest all
