@@ -3,7 +3,7 @@ use Rattle.domain_label.specs.Wire.{wire}
 use Rattle.domain_header.specs.Values.{class_number}
 use Rattle.domain_zone_answer.specs.Views.{cname_view}
 use Rattle.domain_zone_response.proofs.Growing.{head_is, single_stops}
-use Rattle.domain_zone_response.proofs.sections.push_cname.Goals as goal
+use Rattle.domain_zone_response.proofs.rrset.push_cname.Goals as goal
 
 pub returns-clause-why : goal.returns-clause-why
 returns-clause-why g c refused =
