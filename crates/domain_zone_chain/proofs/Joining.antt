@@ -1,5 +1,6 @@
 -- The sections of a chain, from its first question on.
 use Rattle.std.proofs.Common.{◌≡◌, ℕ, List, [], ◌∷◌, ◌++◌, map, take, length, refl, sym, ap, subst, ◌∙◌, append_assoc, append-nil, arith}
+use Rattle.std.proofs.lemmas.List.{map-append}
 use Rattle.std.specs.Prelude.{⊤}
 use Rattle.domain_zone_answer.specs.Laws.{HasOneResponse}
 use Rattle.domain_zone_answer.specs.Sections.{Sections, AreSections}
@@ -10,7 +11,7 @@ use Rattle.domain_zone_chain.specs.ChainSections.{last_outcome, followed_by, Are
 use Rattle.domain_zone_chain.specs.Laws.{HasOneChainResponse}
 use Rattle.domain_zone_laws.specs.Answers.{Outcome, Answers}
 use Rattle.domain_zone_laws.specs.Laws.{HasOneOutcome}
-use Rattle.domain_zone_laws.specs.Zone.{Zone, IsZone}
+use Rattle.domain_zone_laws.specs.Zone.{Zone, RRset, IsZone}
 
 -- Each of these questions has its outcome.
 abbrev pub AllAnswer : Zone → ℕ → List Step → Type 0
@@ -58,6 +59,45 @@ sections_more z x (v ∷ vs) y all s h k = (
 pub last_more : (o : Outcome) (ys : List Step) (y : Step) → last_outcome o (ys ++ y ∷ []) ≡ y.outcome
 last_more o [] y = refl
 last_more o (v ∷ vs) y = last_more v.outcome vs y
+
+-- ---- the response so far
+
+-- The questions about q and these names have these answers, and the last has this outcome and these sections.
+pub record FollowsSoFar (z : Zone) (q : List (List ℕ)) (t : ℕ) (first last : Outcome) (names : List (List (List ℕ))) (answers : List RRset) (of_last : Sections) : Type 0 where
+  pub rest : List Step
+  pub all_answer : AllAnswer z t rest
+  pub names_are : map step_name rest ≡ names
+  pub last_is : last ≡ last_outcome first rest
+  pub sections : AreChainSections z (step q first) rest (record { answer = answers; authority = of_last.authority; additional = of_last.additional })
+
+pub follows_first : (z : Zone) (q : List (List ℕ)) (t : ℕ) (first : Outcome) (answers : List RRset) (s : Sections) → answers ≡ s.answer → AreSections z q first s → FollowsSoFar z q t first first [] answers s
+follows_first z q t first answers s is h = record {
+  rest = [];
+  all_answer = tt;
+  names_are = refl;
+  last_is = refl;
+  sections = subst (λ xs. AreSections z q first (record { answer = xs; authority = s.authority; additional = s.additional })) (sym is) h;
+}
+
+pub follows_more : (z : Zone) (q : List (List ℕ)) (t : ℕ) (first last next : Outcome) (names more : List (List (List ℕ))) (n : List (List ℕ)) (xs ys : List RRset) (r s : Sections)
+    → more ≡ names ++ n ∷ [] → ys ≡ xs ++ s.answer → Answers z n t next → AreSections z n next s → FollowsSoFar z q t first last names xs r → FollowsSoFar z q t first next more ys s
+follows_more z q t first last next names more n xs ys r s longer joined a h x = record {
+  rest = x.rest ++ step n next ∷ [];
+  all_answer = answers_more z t x.rest (step n next) x.all_answer a;
+  names_are = map-append step_name x.rest (step n next ∷ []) ∙ (ap (λ ns. ns ++ n ∷ []) x.names_are ∙ sym longer);
+  last_is = sym (last_more first x.rest (step n next));
+  sections =
+      let all : Sections = record { answer = xs; authority = r.authority; additional = r.additional } in
+      subst (λ l. AreChainSections z (step q first) (x.rest ++ step n next ∷ []) (record { answer = l; authority = s.authority; additional = s.additional })) (sym joined) (sections_more z (step q first) x.rest (step n next) all s x.sections h);
+}
+
+-- The questions are those of the chain.
+pub follows_all : HasOneOutcome → (z : Zone) (t : ℕ) → IsZone z → (q : List (List ℕ)) (first last : Outcome) (names some : List (List (List ℕ))) (answers : List RRset) (s : Sections) → some ≡ names → IsFollowedBy z q t first names → FollowsSoFar z q t first last some answers s
+    → Follows z q t first last (record { answer = answers; authority = s.authority; additional = s.additional })
+follows_all one z t w q first last names some answers s all h x =
+    let steps : AllAnswer z t (step q first ∷ h.0) = chain_answers z t alias_limit (q ∷ []) q (step q first ∷ h.0) h.1 in
+    let same : h.0 ≡ x.rest = same_steps z t (no_two one z t w) h.0 x.rest steps.1 x.all_answer (h.2 ∙ (sym all ∙ sym x.names_are)) in
+    record { rest = x.rest; chain = subst (λ ys. IsChain z q t (step q first ∷ ys)) same h.1; last_is = x.last_is; sections = x.sections }
 
 -- ---- one response
 

@@ -1,3 +1,5 @@
+mod Among
+pub mod Calling
 mod Evaluating
 mod Joining
 mod Leading
