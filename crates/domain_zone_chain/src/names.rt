@@ -1,5 +1,5 @@
 //! The names of a chain.
-ghost use Rattle.std.specs.Prelude.{◌≡◌, ◌↔◌, ◌∷◌, ⊥, map, IsTrue, IfOk};
+ghost use Rattle.std.specs.Prelude.{◌≡◌, ◌↔◌, ◌∷◌, map, IsTrue, IfOk};
 ghost use Rattle.domain_list.specs.Ends.{EndsWith};
 ghost use Rattle.domain_name.specs.Names.{name_labels};
 ghost use Rattle.domain_zone.specs.Kept.{zone_view};

@@ -23,7 +23,6 @@ pub struct ChainResponse<'a> {
 }
 
 impl<'a> ChainResponse<'a> {
-    ghost use Rattle.std.specs.Prelude.{map};
     ghost use Rattle.domain_header.specs.Values.{rcode_number};
     ghost use Rattle.domain_zone.specs.Headers.{response_code};
     ghost use Rattle.domain_zone.specs.Outcomes.{outcome_of};

@@ -32,7 +32,11 @@ fn push_answers<Target: Composer>(
     ensures capacity { target_room message.old ≤ target_room message.new }
 {
     let count = push_most(message, Section::Answer, class, answers);
-    count == answers.len()
+    let all = answers.len();
+    if count < all {
+        return false;
+    }
+    true
 }
 
 /// Pushes the sections of a response, up to the first required RRset that doesn't fit. Returns whether none of these
