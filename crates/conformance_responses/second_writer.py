@@ -219,7 +219,10 @@ def response(zone, octets, stream, size):
     if code is None:
         name, rtype, _ = query.questions[0]
         steps = followed(zone, zones.text_of(name) if name else ".", rtype)
-        answers = [it for _, section, _, _ in steps for it in section]
+        answers = []
+        for _, section, _, _ in steps:
+            # A record isn't repeated (RFC 2181, 5): a DNAME can redirect twice.
+            answers += [it for it in section if it not in answers]
         # AA is of the first owner (RFC 1035, 4.1.1), the response code of the last question (RFC 6604, 3).
         first, last = (zones.header_of(it[0]) for it in (steps[0], steps[-1]))
         aa, code = "aa=1" in first, int(last.split("rcode=")[1])

@@ -190,7 +190,8 @@ TOLD = [
         CHAINS,
         UDP,
         [
-            (query("a.old.example.", A), "8500 1 6 0 0"),
+            (query("a.old.example.", A), "8500 1 5 0 0"),
+            (query("a.old.example.", DNAME), "8500 1 4 1 0"),
             (query("b.old.example.", A), "8500 1 3 0 0"),
             (query("b.old.example.", AAAA), "8500 1 2 1 0"),
             (query("c.old.example.", A), "8503 1 2 1 0"),
@@ -205,8 +206,8 @@ TOLD = [
         CHAINS,
         TCP,
         [
-            (query("a.grows.example.", A), "8500 1 34 0 0"),
-            (query(f"{'g' * 63}.{'h' * 63}.{'i' * 63}.{'j' * 20}.grows.example.", A), "8506 1 27 0 0"),
+            (query("a.grows.example.", A), "8500 1 19 0 0"),
+            (query(f"{'g' * 63}.{'h' * 63}.{'i' * 63}.{'j' * 20}.grows.example.", A), "8506 1 15 0 0"),
         ],
     ),
     (

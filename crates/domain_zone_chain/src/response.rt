@@ -4,11 +4,14 @@ ghost use Rattle.domain_name.specs.Names.{name_labels};
 ghost use Rattle.domain_zone.specs.Kept.{zone_view};
 ghost use Rattle.domain_zone_answer.specs.Sections.{AreSections};
 ghost use Rattle.domain_zone_answer.specs.Views.{response_name, response_outcome, response_sections};
-ghost use Rattle.domain_zone_chain.specs.ChainSections.{IsFollowedBy, Follows};
+ghost use Rattle.domain_zone_answer.specs.Views.{section_view};
+ghost use Rattle.std.specs.List.{filter};
+ghost use Rattle.domain_zone_chain.specs.ChainSections.{IsFollowedBy, Follows, is_new_to};
 ghost use Rattle.domain_zone_chain.specs.Views.{answer_views, last_of, chain_sections};
 
 use crate::answer::AnswerRrset;
 use domain_header::Rcode;
+use domain_list::comparing::eq_names;
 use domain_name::Name;
 use domain_zone::{Answer, Zone};
 use domain_zone_answer::{AddressIter, Response, SectionRrset, respond};
@@ -65,16 +68,35 @@ impl<'a> ChainResponse<'a> {
     }
 }
 
-/// Pushes the RRsets of the answer section of one question.
+/// Whether none of these has the owner and the type of an RRset.
+fn is_new_to(answers: &[AnswerRrset<'_>], set: SectionRrset<'_>) -> bool
+    ensures { result ≡ is_new_to (answer_views answers.now) (section_view set.entry) }
+{
+    for answer in answers {
+        let (owner, rtype) = match answer {
+            AnswerRrset::Zones(other) => (other.owner(), other.rtype()),
+            AnswerRrset::Made(cname) => (cname.owner(), 5),
+        };
+        if rtype == set.rtype() && eq_names(&owner, &set.owner()) {
+            return false;
+        }
+    }
+    true
+}
+
+/// Pushes the RRsets of the answer section of one question that aren't there.
 fn push_answers<'a>(
     response: &Response<'a>,
     answers: &mut Vec<AnswerRrset<'a>>,
 ) -> Result<(), AllocError>
     ensures { OnOk result (answer_views answers.new.items
-        ≡ answer_views answers.old.items ++ (response_sections response.now).answer) }
+        ≡ answer_views answers.old.items ++ filter (is_new_to (answer_views answers.old.items))
+        (response_sections response.now).answer) }
 {
     if let Some(set) = response.answer() {
-        answers.push(AnswerRrset::Zones(set))?;
+        if is_new_to(answers.as_slice(), set) {
+            answers.push(AnswerRrset::Zones(set))?;
+        }
     }
     if let Some(cname) = response.synthesized_cname() {
         answers.push(AnswerRrset::Made(cname))?;
