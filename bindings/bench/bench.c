@@ -86,6 +86,43 @@ static void ours_hash(void)
     sink += (size_t)hash;
 }
 
+/* A header alone, and a header with the other name, which has its offsets in the table. */
+static struct {
+    uint8_t octets[12 + 2 * DNSNAMES_MAX_LEN];
+    uint16_t table[DNSNAMES_MAX_TABLE];
+    size_t len, table_len;
+} header = {.len = 12}, other_written;
+
+/* The lengths are those before in each turn, so each turn writes the same octets and offsets anew. */
+static void ours_append_first(void)
+{
+    size_t len = header.len, table_len = header.table_len;
+
+    if (dnsnames_append(header.octets, sizeof header.octets, &len, header.table, DNSNAMES_MAX_TABLE, &table_len,
+                        in->name, in->len))
+        fail("append");
+    sink += len;
+}
+
+static void ours_append(void)
+{
+    size_t len = other_written.len, table_len = other_written.table_len;
+
+    if (dnsnames_append(other_written.octets, sizeof other_written.octets, &len, other_written.table,
+                        DNSNAMES_MAX_TABLE, &table_len, in->name, in->len))
+        fail("append");
+    sink += len;
+}
+
+static void prepare_append(void)
+{
+    other_written.len = 12;
+    other_written.table_len = 0;
+    if (dnsnames_append(other_written.octets, sizeof other_written.octets, &other_written.len, other_written.table,
+                        DNSNAMES_MAX_TABLE, &other_written.table_len, in->other, in->other_len))
+        fail("append");
+}
+
 static uint64_t word_at(const uint8_t *octets)
 {
     uint64_t word = 0;
@@ -300,6 +337,8 @@ static const struct call CALLS[] = {
     {"from text", "dnsnames", ours_from_text},
     {"hash", "dnsnames", ours_hash},
     {"hash", "plain C", plain_c_hash},
+    {"append to a header", "dnsnames", ours_append_first},
+    {"append after the other", "dnsnames", ours_append},
 #ifdef WITH_KNOT
     {"read", "libknot", knot_read},
     {"compare", "libknot", knot_compare},
@@ -454,6 +493,7 @@ int main(int argc, char **argv)
     for (i = 0; i < 2; i++) {
         uint64_t hash;
         in = i == 0 ? &typical : &longest;
+        prepare_append();
 #ifdef WITH_LDNS
         prepare_ldns();
 #endif

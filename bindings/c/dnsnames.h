@@ -346,7 +346,7 @@ dnsnames_status dnsnames_table(const uint8_t *message, size_t message_len, uint8
                                size_t rows_capacity, uint8_t *names, size_t names_capacity, size_t *row_count,
                                size_t *names_len);
 
-/* Whether a message answers a query: *yes becomes 1 where it is a response with the query's identifier and the query's
+/* Whether a message answers a query: *yes becomes 1 where it is a response with the query's identifier, opcode and
  * questions, in their order, names without ASCII case, and 0 otherwise. A message with a question missing answers none, and
  * none answers it. SHORT_INPUT where one of the two has fewer than twelve octets. */
 dnsnames_status dnsnames_is_answer(const uint8_t *message, size_t message_len, const uint8_t *query, size_t query_len,
@@ -468,6 +468,9 @@ dnsnames_status dnsnames_data_option(const uint8_t *message, size_t message_len,
  *     ;; AUTHORITY SECTION
  *     ;; ADDITIONAL SECTION
  *     ; EDNS: version: 0, flags: do; udp: 1232
+ *
+ * An owner, and the name of a question, is as in a zone: ; " ( ) @ and $ have a backslash before them, too. Where octets
+ * follow the last record, a last line says how many, as "; trailing octets: 4".
  *
  * Data that can't be read by their type are shown as octets (RFC 3597, 5), with the reason behind them. Names that pointers
  * lead to are written out, so a message of 65,535 octets can be made whose text has more than nine million.

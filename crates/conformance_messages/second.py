@@ -370,7 +370,7 @@ class Message:
     def __init__(self, octets):
         if len(octets) < 12:
             raise Refused("short message")
-        self.octets, self.id, self.is_response = octets, octets[:2], octets[2] >= 128
+        self.octets, self.id, self.is_response, self.opcode = octets, octets[:2], octets[2] >= 128, octets[2] >> 3 & 15
         self.counts = [int.from_bytes(octets[at:at + 2], "big") for at in (4, 6, 8, 10)]
 
     def questions(self):
@@ -380,8 +380,10 @@ class Message:
 
 
 def answers(query, message):
-    """A response with the query's identifier and its questions, in their order, the names without case."""
-    if not message.is_response or message.id != query.id or message.counts[0] != query.counts[0]:
+    """A response with the query's identifier, opcode and questions, in their order, the names without case."""
+    if not message.is_response or (message.id, message.opcode) != (query.id, query.opcode):
+        return "0"
+    if message.counts[0] != query.counts[0]:
         return "0"
     try:
         theirs, ours = (

@@ -318,7 +318,7 @@ def chain_rows():
 
 
 def answers_rows():
-    topic("which message answers which query: the response flag, the identifier, the questions in their order, case")
+    topic("which message answers which query: the response flag, the identifier, the opcode, the questions in their order, case")
     query = header((1, 0, 0, 0), bits=0x0100) + question(WWW)
     reply = message([question(WWW)], [record(AT, A, b"\xc0\0\2\1")])
 
@@ -332,8 +332,13 @@ def answers_rows():
     asked(reply + b"\xff" * 5, "1")
     for bit in range(16):
         asked(header((1, 0, 0, 0), bits=1 << bit) + question(WWW), "1" if bit == 15 else "0")
-        asked(header((1, 0, 0, 0), bits=0xFFFF ^ 1 << bit) + question(WWW), "0" if bit == 15 else "1")
+        asked(header((1, 0, 0, 0), bits=0x87FF ^ 1 << bit) + question(WWW), "0" if bit > 10 else "1")
         asked(header((1, 0, 0, 0), ident=0x1234 ^ 1 << bit) + question(WWW), "0")
+    for opcode in (1, 2, 4, 5, 15):
+        response, other = (header((1, 0, 0, 0), bits=bits | opcode << 11) + question(WWW) for bits in (0x8000, 0))
+        asked(response, "1", of=other)
+        asked(response, "0")
+        asked(reply, "0", of=other)
     for size in range(len(reply)):
         asked(reply[:size], "err short message" if size < 12 else "1" if size >= 33 else "0")
     for size in range(len(query)):

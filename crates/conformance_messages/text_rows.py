@@ -11,6 +11,7 @@ that the rows `any` and `typed` print are read back. The last line tells how man
 import ipaddress
 import os
 import random
+import re
 import sys
 
 import second
@@ -20,6 +21,16 @@ FOLDER = os.path.dirname(os.path.abspath(__file__))
 FIRST = "# texts: words, white space and comments"
 A, NS, CNAME, SOA, HINFO, MX, TXT, RP, AAAA, SRV, DNAME, SPF = 1, 2, 5, 6, 13, 15, 16, 17, 28, 33, 39, 99
 IN, CH, HS, NONE, ANY = 1, 3, 4, 254, 255
+# What the data of a type is, one letter a word: n a name, 2 and 4 a number of as many octets, a and A an address, s a
+# character string; S is one of these or more.
+FORMS = {
+    1: "a", 2: "n", 3: "n", 4: "n", 5: "n", 6: "nn44444", 7: "n", 8: "n", 9: "n", 12: "n", 13: "ss", 14: "nn", 15: "2n",
+    16: "S", 17: "nn", 18: "2n", 21: "2n", 28: "A", 33: "222n", 36: "2n", 39: "n", 99: "S",
+}
+# Types of which nothing is known: after `\\#` their data is any octets.
+UNKNOWN = (0, 731, 32767, 65280, 65281, 65534, 65535)
+# Types of which data is read by its fields in class IN alone (RFC 1035, 3.4; RFC 2782; RFC 2230)
+OF_INTERNET = (A, AAAA, SRV, 36)
 rows = {}  # a line, and its answer if it is known beforehand
 
 
@@ -94,7 +105,7 @@ def name_rows():
         row(NS, b"\\" + it + b".", wire(it) if it not in b"[0123456789" and 32 <= octet < 127 else None)
         row(DNAME, b"a\\" + it + b"b.", wire(b"a" + it + b"b") if it not in b"0123456789" and 32 <= octet < 127 else None)
     for escape in ("\\256", "\\299", "\\300", "\\999", "\\1", "\\12", "\\0", "\\00", "\\1a", "\\12a", "\\1a2", "\\+12", "\\ 12", "\\0x1", "\\-01"):
-        row(NS, escape + ".", err="1 no name" if escape[1] in "01239" else None)
+        row(NS, escape + ".", err="0 Name" if escape[1] in "01239" else None)
         row(NS, "a" + escape + "b.c.")
         row(TXT, escape)
         row(TXT, f'"a{escape}b"')
@@ -107,18 +118,18 @@ def name_rows():
         row(SOA, f"{text} {text} 1 2 3 4 5")
     for size in (1, 62, 63, 64, 65, 255, 256):
         told = wire(b"a" * size) if size < 64 else None
-        row(NS, "a" * size + ".", told, err=None if told else "1 no name")
-        row(NS, "\\097" * size + ".", told, err=None if told else "1 no name")
+        row(NS, "a" * size + ".", told, err=None if told else "0 Name")
+        row(NS, "\\097" * size + ".", told, err=None if told else "0 Name")
         row(NS, "\\a" * size + ".", told)
         row(NS, "b." + "a" * size + ".c.", wire(b"b", b"a" * size, b"c") if told else None)
     for last in range(57, 64):  # names of 251 to 257 octets
         labels = [b"a" * 63] * 3 + [b"b" * last]
         told = wire(*labels) if len(wire(*labels)) <= 255 else None
-        row(CNAME, b".".join(labels) + b".", told, err=None if told else "1 no name")
+        row(CNAME, b".".join(labels) + b".", told, err=None if told else "0 Name")
         row(SRV, b"0 0 0 " + b".".join(labels) + b".", b"\0" * 6 + told if told else None)
     for count in (126, 127, 128, 129):
         told = wire(*[b"a"] * count) if count < 128 else None
-        row(NS, "a." * count, told, err=None if told else "1 no name")
+        row(NS, "a." * count, told, err=None if told else "0 Name")
         row(NS, "\\046." * count, wire(*[b"."] * count) if told else None)
     row(NS, "mail.example.;", None)
 
@@ -140,7 +151,7 @@ def number_rows():
             row(SOA, ". . " + " ".join(words), b"\0\0" + b"".join(it.to_bytes(4, "big") for it in numbers) if value < 2**32 else None)
         row(65280, f"\\# {text} 00")
         row(A, f"\\# {text}")
-    row(SOA, ". . 1h 2 3 4 5", err="5 no number, or too large a one")
+    row(SOA, ". . 1h 2 3 4 5", err="4 Number")
 
 
 def address_rows():
@@ -179,13 +190,13 @@ def string_rows():
         row(TXT, b"\\%03d" % octet, strings(it))
         row(TXT, b'"a\\%03db"' % octet, strings(b"a" + it + b"b"))
         row(TXT, b'"' + it + b'"', strings(it) if plain else None)
-        row(TXT, b"a" + it + b"b", strings(b"a" + it + b"b") if plain and it not in b" \t\r" else None)
+        row(TXT, b"a" + it + b"b", strings(b"a" + it + b"b") if plain and it not in b" \t\r\n;()" else None)
         row(SPF, it)
         row(TXT, b"\\" + it, strings(it) if it not in b"#0123456789" else None)
         row(HINFO, b'"\\' + it + b'" "' + it + it + b'"')
     for size in (0, 1, 2, 254, 255, 256, 257, 300):
         told = strings(b"a" * size) if size < 256 else None
-        err = None if told else "1 no character string"
+        err = None if told else "0 CharString"
         for text in ('"' + "a" * size + '"', '"' + "\\a" * size + '"', '"' + "\\097" * size + '"'):
             row(TXT, text, told, err=err)
             row(TXT, text + " b", told and told + strings(b"b"), err=err)
@@ -197,9 +208,9 @@ def string_rows():
     for count in (1, 2, 3, 17, 300):
         row(TXT, " ".join(["a"] * count), strings(*[b"a"] * count))
         row(TXT, " ".join(['""'] * count), bytes(count))
-        row(SPF, " ".join(['"' + "b" * 255 + '"'] * count), strings(*[b"b" * 255] * count))
-    row(TXT, "", err="0 another number of words than data of this type has")
-    row(TXT, " ; nothing", err="0 another number of words than data of this type has")
+        row(SPF, " ".join(['"' + "b" * 255 + '"'] * count), strings(*[b"b" * 255] * count) if count < 256 else None)
+    row(TXT, "", err="0 MissingWord")
+    row(TXT, " ; nothing", err="10 MissingWord")
 
 
 WRONG = ("x", "x.", "1", "65536", "4294967296", "1.2.3.4", "::1", '"a b"', '"', "\\", "\\256", "..", "a" * 64 + ".", '""', "\\#", "\x80", "a" * 256)
@@ -208,7 +219,7 @@ WRONG = ("x", "x.", "1", "65536", "4294967296", "1.2.3.4", "::1", '"a b"', '"', 
 def field_rows():
     topic("data of each type: with each word left out, twice, and replaced by what is none")
     for rtype, (text, _octets) in sorted(WORKED.items()):
-        words = [word.decode() for _column, word in second_text.words_of(text.encode())]
+        words = [word.decode() for _offset, word in second_text.words_of(text.encode())]
         for count in range(len(words)):
             row(rtype, " ".join(words[:count]))
         for place in range(len(words)):
@@ -234,8 +245,9 @@ def generic_rows():
     row(A, "\\# 4 0A000001", bytes([10, 0, 0, 1]))
     row(A, "10.0.0.2", bytes([10, 0, 0, 2]))
     for rtype in [*range(0, 120), *range(245, 265), 32767, 32768, 32769, 65280, 65534, 65535]:
-        row(rtype, "\\# 3 01 02 ff", b"\1\2\xff")
-        row(rtype, "\\# 0", b"")
+        is_unknown = rtype in UNKNOWN
+        row(rtype, "\\# 3 01 02 ff", b"\1\2\xff" if is_unknown else None)
+        row(rtype, "\\# 0", b"" if is_unknown else None)
         row(rtype, "1")
         row(rtype, "")
     for text in ("\\#", "\\# ", "\\# ;", "\\# 1", "\\# 0 00", "\\# 1 0", "\\# 1 000", "\\# 1 00 ", "\\# 1 0 0", "\\# 2 000 0", "\\# 2 0000", "\\# 2 00 00", "\\# 2 00\t00",
@@ -254,14 +266,13 @@ def generic_rows():
         row(rtype, f"\\# {len(octets)} {octets.hex(' ')}", octets)
         row(rtype, f"\\# {len(octets)} {octets.hex().upper()}", octets)
         row(rtype, f"\\# {len(octets) + 1} {octets.hex()}")
-        row(rtype, f"\\# {len(octets) - 1} {octets.hex()[2:]}", octets[1:])
-    # Texts of types that are read behind \# alone.
-    for rtype, text in UNREAD:
-        row(rtype, text, err="0 " + second_text.UNREAD)
+        row(rtype, f"\\# {len(octets) - 1} {octets.hex()[2:]}")
+    for rtype, text in OTHERS:
+        row(rtype, text)
 
 
-# Texts of types that are read behind `\#` alone, as their RFCs write them.
-UNREAD = (
+# Texts of other types, most of them as their RFCs write them.
+OTHERS = (
     (11, "10.0.0.1 TCP 25"), (19, "311061700956"), (20, "150862028003217 004"), (22, "0x47.0005.80"), (24, "SIG 1 3 300 0 0 0 a. aa=="),
     (25, "256 3 5 AQPSKmynfzW4"), (26, "10 net2.it. PRMD-net2."), (27, "-32.6882 116.8652 10.0"), (29, "42 21 54 N 71 06 18 W -24m 30m"), (30, "a. A NS"),
     (35, '100 50 "s" "z3950+N2L+N2C" "" cidserver.example.com.'), (37, "PGP 0 0 aa=="), (38, "0 . a."), (41, ""), (42, "1:192.168.32.0/21 !1:192.168.38.0/28"),
@@ -280,10 +291,10 @@ def class_rows():
     topic("classes, and records without data")
     for rclass in (0, 1, 2, CH, HS, 5, 253, NONE, ANY, 256, 65280, 65535):
         for rtype in (A, NS, TXT, AAAA, SRV, 46, 65280):
-            row(rtype, "", rclass=rclass, data=b"" if rclass in (NONE, ANY) else None)
+            row(rtype, "", rclass=rclass)
             row(rtype, " \t", rclass=rclass)
             row(rtype, " ; nothing", rclass=rclass)
-            row(rtype, "\\# 0", b"", rclass=rclass)
+            row(rtype, "\\# 0", b"" if rtype in UNKNOWN else None, rclass=rclass)
             row(rtype, WORKED.get(rtype, ("x",))[0], rclass=rclass)
             row(rtype, '""', rclass=rclass)
             row(rtype, "\\#", rclass=rclass)
@@ -376,20 +387,27 @@ def random_rows():
     topic("drawn at random, spelled in every way, and some of them changed")
     rng = random.Random(20261128)
     for _row in range(2500):
-        rtype = rng.choice((*second_text.FORMS, TXT, TXT, SPF, HINFO, SOA, SRV, MX, RP))
-        form = second_text.FORMS[rtype]
+        rtype = rng.choice((*FORMS, TXT, TXT, SPF, HINFO, SOA, SRV, MX, RP))
+        form = FORMS[rtype]
         form = "s" * rng.choice((1, 1, 2, 3, 6)) if form == "S" else form
         words, octets = zip(*(random_word(rng, kind) for kind in form))
-        octets = b"".join(octets)
+        octets = b"".join(octets) if not any(map(is_more, words)) else None
         if rng.random() < 0.15:
-            words, octets = random_generic(rng)
+            words, _octets = random_generic(rng)
+            octets = None  # they may be none of the type
         text = blank(rng, 0) + blank(rng, 0).join(word + blank(rng, 1) for word in words)
         if rng.random() < 0.1 and text.endswith((b" ", b"\t", b"\r")):
             text += b";" + random_octets(rng, 20)
         if rng.random() < 0.35:
             text = changed(rng, text)
             octets = None
-        row(rtype, text, octets, rclass=rng.choice((IN, IN, IN, IN, CH, HS, NONE, ANY, rng.randrange(65536))))
+        rclass = rng.choice((IN, IN, IN, IN, CH, HS, NONE, ANY, rng.randrange(65536)))
+        row(rtype, text, octets if rclass == IN or rtype not in OF_INTERNET else None, rclass=rclass)
+
+
+def is_more(word):
+    """Whether a word isn't between quotes, and has an octet that ends it or begins quotes."""
+    return word[:1] != b'"' and re.search(rb'[\n;()"]', re.sub(rb"\\.", b"", word, flags=re.S)) is not None
 
 
 def changed(rng, text):
@@ -419,12 +437,12 @@ def shown_rows(lines, answers):
         _ok, octets, _canonical, _length, *text = answer.split(" ", 4)
         rtype, octets, text = int(fields[0]), second.octets_of(octets), text[0] if text else ""
         if text.startswith("\\#"):
-            row(rtype, text, octets)
-        elif rtype not in second_text.FORMS:
-            row(rtype, text, err="0 " + second_text.UNREAD)
+            row(rtype, text, octets if rtype in UNKNOWN else None)
+        elif rtype not in FORMS:
+            row(rtype, text)
         else:
             # In a name a quote and a semicolon stand for themselves as it is shown, and not as it is read.
-            is_plain = "n" not in second_text.FORMS[rtype] or not set(text) & set('";')
+            is_plain = "n" not in FORMS[rtype] or not set(text) & set('";')
             row(rtype, text, octets if is_plain else None)
 
 

@@ -51,7 +51,7 @@ CHECKED, UNCHECKED = {DS: ((2, 3),), CDS: ((2, 3),), DLV: ((2, 3),), ZONEMD: ((1
 # Types with bitmaps of types.
 OF_BITMAPS = (NSEC, NSEC3, CSYNC)
 # Types whose data is octets here, of which dnspython reads the fields.
-OF_OCTETS = (11, 29, 42, 45, 55, 260)
+OF_OCTETS = (11, 23, 29, 41, 42, 45, 55, 56, 260)
 # The mnemonics that dnspython doesn't have.
 OTHER_TYPES = {name: number for number, name in data_rows.TYPES.items() if number not in iter(dns.rdatatype.RdataType)}
 OTHER_TYPES.update({"*": 255, "NSAP-PTR": 23})
@@ -59,6 +59,8 @@ TYPE_NUMBERS = {name: number for number, name in data_rows.TYPES.items()} | {"*"
 # Certificates by their mnemonics (RFC 4398, 2.1).
 CERTIFICATES = dict(zip("PKIX SPKI PGP IPKIX ISPKI IPGP ACPKIX IACPKIX URI OID".split(), (*range(1, 9), 253, 254)))
 ALGORITHMS = {it.name: it.value for it in dns.dnssectypes.Algorithm}
+# An octet by its number, or another one behind a backslash (RFC 1035, 5.1).
+ESCAPES = re.compile(rb"\\(?:([0-9]{3})|([^0-9]))", re.S)
 # A word, which is the group, or white space or a comment between two (RFC 1035, 5.1).
 PARTS = re.compile(rb'[ \t\r\n]+|;[^\n]*|((?:\\.|"(?:\\.|[^\\"])*"|[^ \t\r\n;()\\"])+)', re.S)
 
@@ -292,6 +294,29 @@ def not_utf8(text):
     return text._replace(encoding="latin-1") if is_so else None
 
 
+def octets_of_string(word):
+    """The octets of a string of a zone, None where the word is none."""
+    word = word[1:-1] if len(word) > 1 and word[:1] == word[-1:] == b'"' else word
+    numbers = [int(number) for number, _octet in ESCAPES.findall(word) if number]
+    if re.search(rb'[\\"]', ESCAPES.sub(b"", word)) or any(it > 255 for it in numbers):
+        return None
+    return ESCAPES.sub(lambda it: bytes([int(it[1])]) if it[1] else it[2], word)
+
+
+def ascii_strings(text):
+    """The strings of NAPTR with an x for each octet past ASCII, and the octets with these: two octets of UTF-8 are
+    one here, of 255 that a string may have."""
+    strings = [octets_of_string(word) for _kind, word in text.with_kinds()[2:5]] if text.rtype == NAPTR else []
+    if len(strings) < 3 or any(it is None or len(it) > 255 for it in strings):
+        return None
+    said = [b'"%s"' % b"".join(b"x" if it > 127 else b"\\%03d" % it for it in string) for string in strings]
+    strings_in_data = b"".join(bytes([len(it)]) + it for it in strings)
+    def put_back(octets):
+        return octets[:4] + strings_in_data + octets[4 + len(strings_in_data):]
+    words = text.words()
+    return text._replace(octets=b" ".join(words[:2] + said + words[5:]), back=(*text.back, put_back))
+
+
 def some_target(text):
     """A target of one octet in place of none, and the octets without it."""
     words = text.words() or []
@@ -339,13 +364,15 @@ TEXT_TURNS = (
     ("a text is octets and not characters in UTF-8", "RFC 1035, 3.3", numbered),
     ("MD, MF, MB, MG, MR, MINFO, SIG, KEY and TALINK are known", "RFC 1035, 3.3; RFC 2535, 3 and 4", said_as),
     ("NAPTR is of every class", "RFC 3403, 4.1", in_internet),
-    ("WKS, LOC, APL, IPSECKEY, HIP, AMTRELAY and A in CHAOS are octets", "RFC 3597, 5", as_octets),
+    ("WKS, NSAP-PTR, LOC, OPT, APL, IPSECKEY, HIP, NINFO, AMTRELAY and A in CHAOS are octets", "RFC 3597, 5",
+     as_octets),
     ("numbers of addresses and seconds may have zeros before them", "RFC 1035, 3.4.1; RFC 4034, 3.2", without_zeros),
     ("mnemonics of types that dnspython doesn't have", "RFC 1035, 3.2.3; RFC 6895, 3.1", types_by_number),
     ("the length of a digest isn't checked", "RFC 4034, 5.1.4; RFC 8976, 2.2.4", other_digest),
     ("strings of HINFO, X25, ISDN and GPOS are any octets", "RFC 1035, 3.3; RFC 1183, 3; RFC 1712, 3", strings_alone),
     ("strings of NAPTR, URI and CAA are octets and not characters", "RFC 3403, 4.1; RFC 7553, 4.4; RFC 8659, 4.1",
      not_utf8),
+    ("strings of NAPTR have 255 octets, and not 255 of UTF-8", "RFC 1035, 3.3; RFC 3403, 4.1", ascii_strings),
     ("that a target isn't empty isn't asked", "RFC 7553, 4.4", some_target),
     ("the error of TSIG is any number", "RFC 8945, 4.2", without_error_in_text),
     ("parameters in AliasMode are ignored", "RFC 9460, 2.4.2", service_mode_in_text),
@@ -557,6 +584,22 @@ def refusal_of(row, answer):
     return Refusal(row, words[2], found[1] or b"" if found else b"", rest, due)
 
 
+def has_no_string(row):
+    """Whether dnspython makes no octet of it, where words have a space between."""
+    return ((spelled(row) if isinstance(row, Text) else None) or row).answer() == b""
+
+
+def needs_mark(refusal):
+    """Whether data of its type is read after the mark of any data alone, and has no mark. Of SVCB and HTTPS these are
+    the parameters, none too."""
+    row = refusal.row
+    is_of_octets = row.rtype in (*data_rows.OF_OCTETS, *OF_OCTETS) or (row.rtype, row.rclass) == (A, CHAOS)
+    if not isinstance(row, Text) or row.is_generic() or not is_of_octets:
+        return False
+    is_empty = row.rtype in (SVCB, HTTPS) or not row.words()
+    return refusal.reason == "OnlyGeneric" or refusal.reason == "MissingWord" and is_empty
+
+
 def is_canonical(text):
     """Whether a text is that of octets in base64."""
     words = b"".join(Text(OPENPGPKEY, IN, text).words() or [b"!"])
@@ -624,8 +667,7 @@ ONE_SIDED = (
     ("a text is read past the ends of its lines", "RFC 1035, 5.1",
      lambda it: it.reason in ("OpenQuote", "LoneBackslash") and is_refused_on_one_line(it.row)),
     ("data of this type is read after \\# alone", "RFC 3597, 5",
-     lambda it: it.reason == "OnlyGeneric" and not it.row.is_generic()
-     and (it.row.rtype in data_rows.OF_OCTETS or (it.row.rtype, it.row.rclass) == (A, CHAOS))),
+     lambda it: needs_mark(it)),
     ("each word of hexadecimal digits has whole octets", "RFC 3597, 5",
      lambda it: it.reason == it.due == "Base16" and len(it.word) % 2),
     ("numbers, types, tags and digits have no quotes and no escapes", "RFC 1035, 5.1",
@@ -648,7 +690,7 @@ ONE_SIDED = (
     ("data has at most 65,535 octets", "RFC 1035, 3.2.1",
      lambda it: it.reason == "LongData" and len(it.row.answer()) > 65535),
     ("there is one string or more", "RFC 1035, 3.3.14; RFC 7208, 3.1",
-     lambda it: it.reason in ("NotData", "ShortInput") and it.row.rtype in (TXT, SPF, AVC) and it.row.answer() == b""),
+     lambda it: it.reason in ("NotData", "ShortInput") and it.row.rtype in (TXT, SPF, AVC) and has_no_string(it.row)),
     ("there is one block of a bitmap or more", "RFC 4034, 4.1.2",
      lambda it: it.reason in ("NotData", "ShortInput") and has_no_bitmap(it.row)
      or it.reason == "MissingWord" and it.row.rtype == NSEC),

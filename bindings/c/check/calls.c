@@ -813,7 +813,8 @@ enum { SHOWN_LEN = sizeof SHOWN - 1 };
 static void texts_of_messages(void)
 {
     static const char LINE[] = "host.example.com. 60 IN A 192.0.2.1\n";
-    uint8_t broken[RESPONSE_LEN];
+    static const char TRAILING[] = "; trailing octets: 1\n";
+    uint8_t broken[RESPONSE_LEN], longer[RESPONSE_LEN + 1];
     size_t capacity, len;
 
     /* A room of each size: the beginning of the text, and what is behind the room as it was. */
@@ -840,6 +841,17 @@ static void texts_of_messages(void)
     broken[ADDRESS] = 0x80;
     CHECK(dnsnames_message_text(broken, sizeof broken, buffer, sizeof buffer, &length) == DNSNAMES_BAD_FORM);
     CHECK(length == (size_t)(strstr(SHOWN, "host.example.com. 60") - SHOWN) && memcmp(buffer, SHOWN, length) == 0);
+
+    /* An octet after the last record, and a name that begins with what begins a comment. */
+    memcpy(longer, RESPONSE, sizeof broken);
+    longer[RESPONSE_LEN] = 0;
+    CHECK(dnsnames_message_text(longer, sizeof longer, buffer, sizeof buffer, &length) == DNSNAMES_OK);
+    CHECK(length == SHOWN_LEN + sizeof TRAILING - 1 && memcmp(buffer, SHOWN, SHOWN_LEN) == 0);
+    CHECK(strcmp((const char *)buffer + SHOWN_LEN, TRAILING) == 0);
+    longer[13] = ';';
+    CHECK(dnsnames_message_text(longer, RESPONSE_LEN, buffer, sizeof buffer, &length) == DNSNAMES_OK);
+    CHECK(length == SHOWN_LEN + 2 && strstr((const char *)buffer, "\n\\;ww.example.com. IN A\n") != NULL);
+    CHECK(strstr((const char *)buffer, "\n\\;ww.example.com. 3600 IN CNAME host.example.com.\n") != NULL);
 
     for (capacity = 0; capacity < sizeof LINE - 1; capacity++) {
         mark();

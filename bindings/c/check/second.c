@@ -751,7 +751,7 @@ static int read_asked(const uint8_t *message, size_t message_len, size_t offset,
            SECOND(question)(message, message_len, offset, &asked->fields) == DNSNAMES_OK;
 }
 
-/* RFC 1035, 4.1.1 and 7.3. */
+/* RFC 1035, 4.1.1 and 7.3: the opcode is copied into the response. */
 uint32_t SECOND(is_answer)(const uint8_t *message, size_t message_len, const uint8_t *query, size_t query_len,
                            uint32_t *yes)
 {
@@ -762,7 +762,8 @@ uint32_t SECOND(is_answer)(const uint8_t *message, size_t message_len, const uin
         return DNSNAMES_SHORT_INPUT;
     *yes = 0;
     left = number16(message + 4);
-    if (message[2] < 128 || memcmp(message, query, 2) != 0 || left != number16(query + 4))
+    if (message[2] < 128 || memcmp(message, query, 2) != 0 || ((message[2] ^ query[2]) & 0x78) != 0 ||
+        left != number16(query + 4))
         return DNSNAMES_OK;
     for (ours.fields.end = theirs.fields.end = 12; left > 0; left--)
         if (!read_asked(message, message_len, ours.fields.end, &ours) ||

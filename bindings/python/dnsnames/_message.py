@@ -2,7 +2,7 @@
 
 from __future__ import annotations
 
-from ctypes import byref, c_size_t, c_uint16, c_uint32, create_string_buffer
+from ctypes import byref, c_size_t, c_uint16, c_uint32, create_string_buffer, string_at
 from ipaddress import IPv4Address, IPv6Address
 from itertools import chain, islice
 from struct import Struct
@@ -126,7 +126,7 @@ class Record(NamedTuple):
     def to_text(self) -> str:
         """Its line as `dig` shows it: owner, time to live, class, type and data. Data that can't be read by its type are
         shown as octets, and why (RFC 3597, 5). Raises BadForm where the owner can't be read."""
-        status, text = _text(library.dnsnames_record_text, self.message, len(self.message), self.offset)
+        status, text = _text(library.dnsnames_record_text, len(self.data), self.message, len(self.message), self.offset)
         if status:
             refuse(status, self.offset)
         return text[:-1]
@@ -257,20 +257,17 @@ def _table(octets: bytes) -> Tuple[List[int], bytes]:
     return found
 
 
-# Room for the text of a usual message, so that most need one call.
-_TEXT = 4096
-
-
-def _text(call, *arguments) -> Tuple[int, str]:
-    """The status of a call and the text that it gives, with as much room as that needs."""
-    length, capacity = c_size_t(), _TEXT
+def _text(call, size: int, *arguments) -> Tuple[int, str]:
+    """The status of a call and the text that it gives of what has so many octets. One call has the room that a text of
+    ordinary names needs; a longer one is written again, with the room that the first call asked for."""
+    length, capacity = c_size_t(), 4096 + 8 * size
     while True:
         buffer = create_string_buffer(capacity)
         status = call(*arguments, buffer, capacity, byref(length))
         if status == NoRoom.status and length.value > capacity:
             capacity = length.value
             continue
-        return status, buffer.raw[: length.value].decode("ascii")
+        return status, string_at(buffer, min(length.value, capacity)).decode("ascii")
 
 
 class Message:
@@ -310,8 +307,8 @@ class Message:
         return Header(found.id, found.flags, found.questions, found.answers, found.authority, found.additional)
 
     def is_answer_to(self, query: Message) -> bool:
-        """Whether this is a response with the query's identifier and the query's questions. Raises ShortInput where one of
-        the two has fewer than 12 octets."""
+        """Whether this is a response with the query's identifier, opcode and questions. Raises ShortInput where one of the
+        two has fewer than 12 octets."""
         yes = c_uint32()
         status = library.dnsnames_is_answer(
             self._octets, len(self._octets), query._octets, len(query._octets), byref(yes)
@@ -337,9 +334,10 @@ class Message:
 
     def to_text(self) -> str:
         """The message as `dig` shows it: two lines of its header, and for each section its heading and a line for each
-        question or record. Data that can't be read by their type are shown as octets, and why (RFC 3597, 5). Raises
-        ShortInput where the message ends before all that its header counts, BadForm where an entry hasn't the form of
-        one: `shown` of the error is the text of all before that.
+        question or record. Data that can't be read by their type are shown as octets, and why (RFC 3597, 5). Owners and
+        names of questions are as in a zone: `;` `"` `(` `)` `@` `$` have a backslash before them, too. A last line says
+        how many octets follow the last record, if any do. Raises ShortInput where the message ends before all that its
+        header counts, BadForm where an entry hasn't the form of one: `shown` of the error is the text of all before that.
 
         >>> try:
         ...     Message(bytes.fromhex("1234 0100 0001 0000 0000 0000 0161 00 0001")).to_text()
@@ -350,7 +348,7 @@ class Message:
         ;; QUESTION SECTION
         unexpected end of input (asked for at offset 0)
         """
-        status, text = _text(library.dnsnames_message_text, self._octets, len(self._octets))
+        status, text = _text(library.dnsnames_message_text, len(self._octets), self._octets, len(self._octets))
         if status:
             refuse(status, 0, text if status in FAULTS else None)
         return text

@@ -404,6 +404,16 @@ class Wholes(unittest.TestCase):
                 ours = parts_of(Message(server.sent[seed]).to_text())
                 self.compare(ours, parts_of(in_our_words(text)))
 
+    def test_an_owner_is_as_in_a_zone(self):
+        """An owner that begins with a semicolon is no comment (RFC 1035, 5.1), and what follows the last record is told."""
+        owner = dns.name.Name([b';"a"()@$', b""])
+        octets = bytes.fromhex("0007 8180 0000 0001 0000 0000") + owner.to_wire()
+        octets += bytes.fromhex("0001 0001 0000003c 0004 c0000201") + b"end"
+        lines = Message(octets).to_text().splitlines()
+        self.assertEqual(lines[4], r"\;\"a\"\(\)\@\$. 60 IN A 192.0.2.1")
+        self.assertEqual(record_of(lines[4]), (owner.labels, 60, IN, A, bytes.fromhex("c0000201")))
+        self.assertEqual(lines[5:], [";; AUTHORITY SECTION", ";; ADDITIONAL SECTION", "; trailing octets: 3"])
+
     def test_a_second_opt_record(self):
         """A message has one at most (RFC 6891, 6.1.1): dnspython refuses such a message, while its text shows both."""
         opt = bytes.fromhex("00 0029 04d0 00000000 0000")

@@ -15,7 +15,8 @@ import unittest
 import dnsnames
 from dnsnames import Composer, Message, MessageBuilder, Name, Type, read, skip
 from dnsnames import _library
-from dnsnames._message import Sections
+from dnsnames._library import library
+from dnsnames._message import Sections, _text
 
 HEADER = pathlib.Path(__file__).parents[2] / "c" / "dnsnames.h"
 # RFC 1035, 4.1.4: F.ISI.ARPA at 20, FOO.F.ISI.ARPA at 40, ARPA at 64, the root at 92.
@@ -474,6 +475,25 @@ class Texts(unittest.TestCase):
         text = Message(octets).to_text()
         self.assertGreater(len(text), 4096)
         self.assertEqual(text.count(". 0 IN A 192.0.2.1\n"), many)
+        self.assertEqual(self.calls_for(octets), 1)
+
+    def test_a_text_with_long_names_is_made_again(self):
+        many, name = 300, (b"\x3f" + b"a" * 63) * 3 + b"\0"
+        octets = b"\0\0\x80\0\0\1" + many.to_bytes(2, "big") + bytes(4) + name + b"\0\1\0\1"
+        octets += (b"\xc0\x0c\0\1\0\1" + bytes(4) + b"\0\4\xc0\0\2\1") * many
+        self.assertEqual(Message(octets).to_text().count("a. 0 IN A 192.0.2.1\n"), many)
+        self.assertEqual(self.calls_for(octets), 2)
+
+    def calls_for(self, octets):
+        """How many calls of the library the text of a message takes."""
+        calls = []
+
+        def counted(*arguments):
+            calls.append(arguments)
+            return library.dnsnames_message_text(*arguments)
+
+        _text(counted, len(octets), octets, len(octets))
+        return len(calls)
 
     def test_refusals(self):
         for end in range(len(self.OCTETS)):

@@ -129,7 +129,7 @@ impl<'a> Message<'a> {
         read(self.octets, offset, MAX_POINTERS, buffer)
     }
 
-    /// Whether this message answers the query: a response with the query's identifier and the query's questions.
+    /// Whether this message answers the query: a response with the query's identifier, opcode and questions.
     /// `ShortInput` where one of the two has fewer than 12 octets.
     pub fn is_answer(&self, query: &Message<'_>) -> Result<bool, Fault> {
         let mut yes = 0;
@@ -158,7 +158,8 @@ impl<'a> Message<'a> {
 
     /// The text of the message as `dig` writes it, in the buffer: two lines of its header, and for each section its
     /// heading and a line for each question or record. Data that can't be read by their type are shown as octets, and why
-    /// (RFC 3597, 5).
+    /// (RFC 3597, 5). Owners and names of questions are as in a zone: `;` `"` `(` `)` `@` `$` have a backslash before
+    /// them, too. A last line says how many octets follow the last record, if any do.
     ///
     /// `NoRoom` has how many octets it is. `ShortInput` where the message ends before all that its header counts,
     /// `BadForm` where an entry hasn't the form of one.

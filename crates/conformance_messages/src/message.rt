@@ -27,7 +27,7 @@ pub fn put_message(out: &Answer, octets: &[u8]) {
         Some(question) => put_question(out, b" first=", &question),
         None => out.put(b" first=none"),
     }
-    match message.canonical_name() {
+    match message.canonical_name(u16::MAX) {
         Some(name) => put_name(out, b" canonical=", &name),
         None => out.put(b" canonical=none"),
     }

@@ -50,7 +50,7 @@ pub extern "C" fn dnsnames_canonical_name(
     let Ok(message) = Message::from_octets(message) else {
         return 1;
     };
-    let Some(name) = message.canonical_name_with_limit(limit) else {
+    let Some(name) = message.canonical_name(limit) else {
         return 30;
     };
     let mut octets = [0; 255];

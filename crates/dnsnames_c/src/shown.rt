@@ -31,7 +31,8 @@ fn number_of_text(put: PutText, capacity: usize) -> u32
 
 /// The text of a message into the buffer, as far as it fits: two lines of its header, and for each section its heading
 /// and a line for each question or record, as `dig` writes them, each with a newline. `length` becomes the size of the
-/// whole text. Data that can't be read by its type are shown as octets (RFC 3597, 5), and why.
+/// whole text. Data that can't be read by its type are shown as octets (RFC 3597, 5), and why. A last line says how
+/// many octets follow the last record, if any do.
 ///
 /// 8 where the text doesn't fit: the buffer has its beginning. 1 where the message ends before all that its header
 /// counts, or in that, and 28 where an entry hasn't the form of one: the text is that of what stands before. 29 where

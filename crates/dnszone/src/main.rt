@@ -1,14 +1,17 @@
 //! Reads the text of a zone from standard input. `dnszone check` prints its records in canonical order, or why they
-//! are no zone. `dnszone ask NAME TYPE` prints the response to a question.
+//! are no zone. `dnszone ask NAME TYPE` prints the response to a question, `dnszone answer QUERY..` the messages
+//! that answer queries.
 //!
 //! README.md lists what is read and printed.
 #![tactic(auto)]
 
+mod answer;
 mod load;
 mod print;
 mod reasons;
 mod response;
 
+use crate::answer::{octets_of, put_answer};
 use crate::load::{LoadError, load};
 use crate::print::{Front, put_records};
 use crate::response::put_response;
@@ -19,11 +22,13 @@ use domain_rdata::Rtype;
 use domain_tool::start::{Program, start};
 use domain_tool::tool::{ToolError, read_all};
 use domain_zone::{Owner, Zone};
+use domain_zone_response::Transport;
 use std::alloc::{AllocError, Global};
 use std::io::{Read, Write};
 use std::process::ExitCode;
 
-const USAGE: &str = "usage: dnszone check | dnszone ask NAME TYPE";
+const USAGE: &str =
+    "usage: dnszone check | dnszone ask NAME TYPE | dnszone answer [--stream] QUERY..";
 
 struct Zones;
 
@@ -76,6 +81,24 @@ enum Asked {
     Records,
     /// The response to a question for records of a type at a name.
     Response(Owner, Rtype),
+    /// The messages that answer these queries.
+    Messages(Transport, Vec<Vec<u8>>),
+}
+
+/// Returns what queries in hexadecimal digits ask for.
+fn asked_of(alloc: Global, transport: Transport, queries: &[&str]) -> Result<Asked, Failure> {
+    let mut octets = Vec::new(alloc);
+    for query in queries {
+        match octets_of(alloc, query)? {
+            Some(query) => {
+                if let Err(_) = octets.push(query) {
+                    return Err(Failure::Memory);
+                }
+            }
+            None => return Err(Failure::Usage),
+        }
+    }
+    Ok(Asked::Messages(transport, octets))
 }
 
 /// Returns what the words ask for.
@@ -92,6 +115,8 @@ fn asked_by(alloc: Global, words: &[&str]) -> Result<Asked, Failure> {
                 Err(FromStrError::ShortBuf) => Err(Failure::Memory),
             }
         }
+        ["answer", "--stream", queries @ ..] => asked_of(alloc, Transport::Stream, queries),
+        ["answer", queries @ ..] => asked_of(alloc, Transport::Datagram, queries),
         _ => Err(Failure::Usage),
     }
 }
@@ -111,6 +136,11 @@ fn shown<R: Read>(alloc: Global, words: &[&str], input: &mut R) -> Result<Vec<u8
         Asked::Response(name, rtype) => {
             let name = name.for_slice();
             put_response(alloc, &zone, &name, *rtype, &mut out)?;
+        }
+        Asked::Messages(transport, queries) => {
+            for query in queries.as_slice() {
+                put_answer(alloc, &zone, query.as_slice(), *transport, &mut out)?;
+            }
         }
     }
     Ok(out)

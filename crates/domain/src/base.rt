@@ -109,8 +109,9 @@ pub mod message {
 pub mod message_builder {
     pub use domain_message_builder::{
         AdditionalBuilder, AdditionalSection, AnswerBuilder, AnswerSection, AuthorityBuilder,
-        AuthoritySection, MessageBuilder, OptBuilder, PushError, QuestionBuilder, RecordBuilder,
-        RecordSection, SectionError, StartError, builder_laws, pushed_data_reads_back,
+        AuthoritySection, MarkedBuilder, MessageBuilder, OptBuilder, PushError, QuestionBuilder,
+        RecordBuilder, RecordSection, SectionError, StartError, builder_laws,
+        pushed_data_reads_back,
     };
 }
 

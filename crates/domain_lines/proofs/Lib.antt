@@ -1,3 +1,4 @@
+pub mod Naming
 pub mod InAndOut
 pub mod Showing
 pub mod Entries

@@ -1,5 +1,5 @@
 -- What holds while the lines of a message are written.
-use Rattle.std.proofs.Common.{◌≡◌, ℕ, ◌+◌, ◌<◌, ◌≤◌, List, [], ◌∷◌, ◌++◌, length, length-append, append_assoc, refl, sym, ap, subst, ◌∙◌, arith, Option, Bool, true, false, cond}
+use Rattle.std.proofs.Common.{◌≡◌, ℕ, ◌+◌, ◌<◌, ◌≤◌, List, [], ◌∷◌, ◌++◌, length, drop, length-append, append_assoc, refl, sym, ap, subst, ◌∙◌, arith, Option, Bool, true, false, cond}
 use Rattle.std.specs.Prelude.{Result, Ok, Err, ◌↔◌, IsTrue, nat_eq, slice_index}
 use Rattle.std.specs.List.{list_any}
 use Rattle.std.proofs.lemmas.List.{append-nil}
@@ -16,12 +16,12 @@ use Rattle.domain_message.specs.RunFacts.{run_and}
 use Rattle.domain_message.specs.Sections.{Run, counted_records}
 use Rattle.domain_message.specs.declared.section.Section.{Section}
 use Rattle.domain_message.specs.declared.section.Section.TheVariants.{Answer, Authority, Additional}
-use Rattle.domain_tool.specs.Engines.{IfRefused, OnAnswer}
+use Rattle.domain_tool.specs.Engines.{IfRefused}
 use Rattle.domain_tool.specs.declared.tool.ToolError.{ToolError}
 use Rattle.domain_tool.specs.declared.tool.ToolError.TheVariants.{Parse, Text, Read, Write, Memory}
 use Rattle.domain_lines.specs.Flags.{flag_text}
 use Rattle.domain_lines.specs.Records.{is_opt_in, IsEntryText}
-use Rattle.domain_lines.specs.Messages.{codes_line, counts_line, header_lines, header_rcode, questions_heading, section_heading, IsQuestionText, AreTextsOf, ShowsAll, ShowsSome, WritesAll, WritesSome, ShowsQuestions, ShowsSection, StopsInSection, ShowsAnswers, ShowsAuthority, PutsMessage, PutsUntil, WritesMessage, WritesUntil, WritesShown}
+use Rattle.domain_lines.specs.Messages.{codes_line, counts_line, header_lines, header_rcode, questions_heading, section_heading, IsQuestionText, AreTextsOf, ShowsAll, ShowsSome, WritesAll, WritesSome, ShowsQuestions, ShowsSection, StopsInSection, ShowsAnswers, ShowsAuthority, ShowsRest, trailing_text, PutsMessage, PutsUntil, WritesMessage, WritesUntil, WritesShown}
 use Rattle.domain_lines.specs.Writing.{Wrote}
 use Rattle.domain_lines.specs.Messages.StopsShowing.{no_header, no_question, no_answer, no_authority, no_additional}
 use Rattle.domain_lines.proofs.InAndOut.{appends_kept}
@@ -57,15 +57,6 @@ refused_so (Err (Text e)) P Q so x = x
 refused_so (Err Read) P Q so x = tt
 refused_so (Err Write) P Q so x = tt
 refused_so (Err Memory) P Q so x = tt
-
--- what holds of an answer, since it holds
-pub answered : {P : Type 0} (r : Result (Unit {0}) ToolError) → P → OnAnswer r P
-answered (Ok done) x = x
-answered (Err (Parse e)) x = x
-answered (Err (Text e)) x = x
-answered (Err Read) x = tt
-answered (Err Write) x = tt
-answered (Err Memory) x = tt
 
 -- the word of a flag
 pub flag_is : (set : Bool) (flag : ℕ) (word shown : List ℕ) → (IsTrue set ↔ (flag ≡ 1)) → shown ≡ cond set word [] → shown ≡ flag_text flag word
@@ -152,8 +143,13 @@ module _ {S : Type 0} (Takes : S → S → List ℕ → Type 0) (nothing : (a : 
   pub wrote_authority : (m o : List ℕ) (p e : ℕ) (old mid new : S) → o ≡ m → Wrote (ShowsAnswers m p) (Takes old mid) → Wrote (ShowsSection o Authority p e) (Takes mid new) → Wrote (ShowsAuthority m e) (Takes old new)
   wrote_authority m o p e old mid new same before here = (before.0 ++ here.0, (p, before.0, here.0, before.1, subst (λ o. ShowsSection o Authority p e here.0) same here.1, refl), joined old mid new before.0 here.0 before.2 here.2)
 
-  pub wrote_message : (m o : List ℕ) (p e : ℕ) (old mid new : S) → o ≡ m → Wrote (ShowsAuthority m p) (Takes old mid) → Wrote (ShowsSection o Additional p e) (Takes mid new) → PutsMessage m (Takes old new)
-  wrote_message m o p e old mid new same before here = (before.0 ++ here.0, (e, p, before.0, here.0, before.1, subst (λ o. ShowsSection o Additional p e here.0) same here.1, refl), joined old mid new before.0 here.0 before.2 here.2)
+  pub wrote_rest : (m o : List ℕ) (p e n : ℕ) (old mid new : S) → o ≡ m → n ≡ length (drop e o) → Wrote (ShowsSection m Additional p e) (Takes old mid) → Takes mid new (trailing_text n) → Wrote (ShowsRest m p) (Takes old new)
+  wrote_rest m o p e n old mid new same count here after =
+      let last = subst (λ n. Takes mid new (trailing_text n)) (count ∙ ap (λ o. length (drop e o)) same) after in
+      (here.0 ++ trailing_text (length (drop e m)), (e, here.0, here.1, refl), joined old mid new here.0 (trailing_text (length (drop e m))) here.2 last)
+
+  pub wrote_message : (m o : List ℕ) (p : ℕ) (old mid new : S) → o ≡ m → Wrote (ShowsAuthority m p) (Takes old mid) → Wrote (ShowsRest o p) (Takes mid new) → PutsMessage m (Takes old new)
+  wrote_message m o p old mid new same before rest = (before.0 ++ rest.0, (p, before.0, rest.0, before.1, subst (λ o. ShowsRest o p rest.0) same rest.1, refl), joined old mid new before.0 rest.0 before.2 rest.2)
 
   pub stopped_answers : (m o : List ℕ) (p : ℕ) (old mid new : S) (r : Result (Unit {0}) ToolError) → o ≡ m → Wrote (ShowsQuestions m p) (Takes old mid) → IfRefused r (λ why. Wrote (λ text. StopsInSection o Answer p text why) (Takes mid new)) → IfRefused r (λ why. PutsUntil m why (Takes old new))
   stopped_answers m o p old mid new r same before = refused_so r (λ why. Wrote (λ text. StopsInSection o Answer p text why) (Takes mid new)) (λ why. PutsUntil m why (Takes old new)) (λ why here. (before.0 ++ here.0, no_answer p before.0 here.0 before.1 (subst (λ o. StopsInSection o Answer p here.0 why) same here.1) refl, joined old mid new before.0 here.0 before.2 here.2))

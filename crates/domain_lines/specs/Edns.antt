@@ -7,8 +7,7 @@ use Rattle.domain_wire.specs.Refusals.{refusal, refusal_text}
 use Rattle.domain_wire.specs.declared.error.ParseError.{ParseError}
 use Rattle.domain_wire.specs.declared.error.ParseError.TheVariants.{ShortInput}
 use Rattle.domain_message.specs.Options.{BeginsWithOption, EndsInOption}
-use Rattle.domain_message.specs.OptRecords.{upper_code, edns_version, dnssec_ok_bit}
-use Rattle.domain_header.specs.Bits.{bit}
+use Rattle.domain_message.specs.OptRecords.{compact_ok_bit, upper_code, edns_version, dnssec_ok_bit}
 use Rattle.domain_rdata.specs.AnyData.{spaced_octet, unknown_text}
 use Rattle.domain_lines.specs.Flags.{flag_text}
 
@@ -16,11 +15,7 @@ use Rattle.domain_lines.specs.Flags.{flag_text}
 abbrev pub remark : ParseError → List ℕ
 remark why = codes " ; " ++ refusal_text (refusal why)
 
--- the bit CO of the TTL of an OPT record: whether compact answers are taken (RFC 9824)
-abbrev pub compact_ok_bit : ℕ → ℕ
-compact_ok_bit ttl = bit 16384 ttl
-
--- the fourteen bits after it, which must be zero (6.1.4)
+-- the fourteen bits after the bit CO, which must be zero (6.1.4)
 abbrev pub bits_of_zero : ℕ → ℕ
 bits_of_zero ttl = ttl % 16384
 

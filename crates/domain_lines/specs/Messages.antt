@@ -1,18 +1,20 @@
 -- What the program writes of a message.
-use Rattle.std.specs.Prelude.{◌≡◌, ℕ, ◌<◌, ◌≤◌, Bool, true, false, List, [], ◌∷◌, ◌++◌, length, slice_index, codes, Option}
+use Rattle.std.specs.Prelude.{◌≡◌, ℕ, ◌<◌, ◌≤◌, Bool, true, false, List, [], ◌∷◌, ◌++◌, length, drop, slice_index, cond, nat_eq, codes, Option}
 use Rattle.std.specs.Fmt.{decimal}
 use Rattle.std.specs.Io.KnownBytes.{Appends}
 use Rattle.domain_wire.specs.declared.error.ParseError.{ParseError}
 use Rattle.domain_wire.specs.declared.error.ParseError.TheVariants.{ShortInput}
 use Rattle.domain_header.specs.Bits.{bits, bit}
 use Rattle.domain_header.specs.Numbers.{number16}
-use Rattle.domain_header.specs.Tables.{opcode_text, rcode_text}
+use Rattle.domain_header.specs.Tables.{opcode_text, rcode_text, class_text}
+use Rattle.domain_header.specs.Rtypes.{rtype_text}
 use Rattle.domain_message.specs.Entries.{QuestionFields, QuestionAt, NoQuestion, RecordAt, NoRecord}
 use Rattle.domain_message.specs.Sections.{Run, counted_records}
-use Rattle.domain_message.specs.Texts.{question_text}
+use Rattle.domain_message.specs.Texts.{spaced}
 use Rattle.domain_message.specs.declared.section.Section.{Section}
 use Rattle.domain_message.specs.declared.section.Section.TheVariants.{Answer, Authority, Additional}
 use Rattle.domain_lines.specs.Flags.{flag_text}
+use Rattle.domain_lines.specs.Names.{zone_name}
 use Rattle.domain_lines.specs.Records.{IsEntryText}
 
 -- The flags that are set in the third and fourth octet of a header (RFC 1035, 4.1.1; AD and CD RFC 4035, 3.1.6 and
@@ -54,9 +56,13 @@ section_heading Additional = codes ";; ADDITIONAL SECTION"
 abbrev pub header_rcode : List ℕ → ℕ
 header_rcode m = bits 1 16 (slice_index m 3)
 
--- The line of a question, whichever are before it: name, class and type.
+-- the line of a question: name, class and type
+abbrev pub zone_question : QuestionFields → List ℕ
+zone_question it = spaced (zone_name it.name) (spaced (class_text it.class) (rtype_text it.rtype))
+
+-- The line of a question, whichever are before it.
 abbrev pub IsQuestionText : List QuestionFields → QuestionFields → List ℕ → Type 0
-IsQuestionText before it text = text ≡ question_text it.name it.class it.rtype ++ 10 ∷ []
+IsQuestionText before it text = text ≡ zone_question it ++ 10 ∷ []
 
 -- After the entries before, the text has the lines of each entry, in their order.
 abbrev pub AreTextsOf : {V : Type 0} → (List V → V → List ℕ → Type 0) → List V → List V → List ℕ → Type 0
@@ -111,9 +117,21 @@ ShowsAnswers m e text = (p : ℕ) × (before : List ℕ) × (here : List ℕ) ×
 abbrev pub ShowsAuthority : List ℕ → ℕ → List ℕ → Type 0
 ShowsAuthority m e text = (p : ℕ) × (before : List ℕ) × (here : List ℕ) × ShowsAnswers m p before × ShowsSection m Authority p e here × (text ≡ before ++ here)
 
--- The text shows the message: the header, the questions, and the records of each section.
+-- how many octets follow the last record
+abbrev pub trailing_line : ℕ → List ℕ
+trailing_line n = codes "; trailing octets: " ++ decimal n
+
+-- the same with its newline, where octets follow
+abbrev pub trailing_text : ℕ → List ℕ
+trailing_text n = cond (nat_eq n 0) [] (trailing_line n ++ 10 ∷ [])
+
+-- The additional section at p is shown, and how many octets follow it.
+abbrev pub ShowsRest : List ℕ → ℕ → List ℕ → Type 0
+ShowsRest m p text = (e : ℕ) × (here : List ℕ) × ShowsSection m Additional p e here × (text ≡ here ++ trailing_text (length (drop e m)))
+
+-- The text shows the message: the header, the questions, the records of each section, and how many octets follow.
 abbrev pub ShowsMessage : List ℕ → List ℕ → Type 0
-ShowsMessage m text = (e : ℕ) × (p : ℕ) × (before : List ℕ) × (here : List ℕ) × ShowsAuthority m p before × ShowsSection m Additional p e here × (text ≡ before ++ here)
+ShowsMessage m text = (p : ℕ) × (before : List ℕ) × (rest : List ℕ) × ShowsAuthority m p before × ShowsRest m p rest × (text ≡ before ++ rest)
 
 -- The message can't be shown to its end, and why, and the text shows all before that.
 pub data StopsShowing (m text : List ℕ) (why : ParseError) : Type 0 where

@@ -3,16 +3,16 @@ use Rattle.std.specs.Prelude.{◌≡◌, ◌⊎◌, ℕ, Bool, true, false, cond
 use Rattle.std.specs.List.{list_any}
 use Rattle.std.specs.Fmt.{decimal}
 use Rattle.domain_wire.specs.declared.error.ParseError.{ParseError}
-use Rattle.domain_label.specs.Text.{text_with_final_dot}
 use Rattle.domain_header.specs.Tables.{class_text}
 use Rattle.domain_header.specs.Rtypes.{rtype_text}
 use Rattle.domain_message.specs.Entries.{RecordFields}
-use Rattle.domain_message.specs.Texts.{spaced, record_text, text_before_data}
+use Rattle.domain_message.specs.Texts.{spaced}
 use Rattle.domain_message.specs.declared.section.Section.{Section}
 use Rattle.domain_message.specs.declared.section.Section.TheVariants.{Answer, Authority, Additional}
 use Rattle.domain_rdata.specs.AnyData.{unknown_text}
 use Rattle.domain_all_data.specs.AllData.{AllFields, AllDataAt, NoAllData, fields_text}
 use Rattle.domain_lines.specs.Edns.{remark, edns_line, another_text, AreOptionLines}
+use Rattle.domain_lines.specs.Names.{zone_name}
 
 -- the octets of the data
 abbrev pub rdata_octets : RecordFields → List ℕ
@@ -24,18 +24,22 @@ IsBare it = (it.header.rdlen ≡ 0) × ((it.header.class ≡ 254) ⊎ (it.header
 
 -- the line of a record without data: owner, TTL, class and type
 abbrev pub bare_text : RecordFields → List ℕ
-bare_text it = spaced (text_with_final_dot it.header.owner) (spaced (decimal it.header.ttl) (spaced (class_text it.header.class) (rtype_text it.header.rtype)))
+bare_text it = spaced (zone_name it.header.owner) (spaced (decimal it.header.ttl) (spaced (class_text it.header.class) (rtype_text it.header.rtype)))
+
+-- the line of a record with this text of its data: the same, and the data
+abbrev pub line_text : RecordFields → List ℕ → List ℕ
+line_text it text = spaced (zone_name it.header.owner) (spaced (decimal it.header.ttl) (spaced (class_text it.header.class) (spaced (rtype_text it.header.rtype) text)))
 
 -- the line of a record whose data can't be read: its octets in the form of RFC 3597, 5, and why
 abbrev pub unread_text : RecordFields → ParseError → List ℕ
-unread_text it why = record_text it.header.owner it.header.ttl it.header.class it.header.rtype (unknown_text (rdata_octets it)) ++ remark why
+unread_text it why = line_text it (unknown_text (rdata_octets it) ++ remark why)
 
 -- The line of a record whose data is there as its type has it: owner, TTL, class, type, and the data.
 pub record IsTypedLine (it : RecordFields) (line : List ℕ) : Type 0 where
   pub fields : AllFields
   pub end : ℕ
   pub data_is : AllDataAt it.header.rtype it.octets it.start fields end
-  pub is : line ≡ text_before_data it.header.owner it.header.ttl it.header.class it.header.rtype ++ fields_text fields
+  pub is : line ≡ line_text it (fields_text fields)
 
 -- The line of a record: with its data as its type has it, or with its octets and why they can't be read, or with none.
 pub data IsRecordLine (it : RecordFields) (line : List ℕ) : Type 0 where

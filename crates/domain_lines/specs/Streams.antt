@@ -1,8 +1,6 @@
 -- What contracts say of an output: `contents` tells what it holds, where that is known, and `takes` what it becomes by
 -- a text.
-use Rattle.std.specs.Prelude.{◌≡◌, ◌⊎◌, ℕ, List, [], ◌∷◌, ◌++◌, Option, Result, IfSome}
-use Rattle.domain_tool.specs.declared.tool.ToolError.{ToolError}
-use Rattle.domain_lines.specs.Failures.{IfStreamFailed}
+use Rattle.std.specs.Prelude.{◌≡◌, ◌⊎◌, ℕ, List, [], ◌∷◌, ◌++◌, Option, IfSome}
 
 -- The text, where it is known, and a newline were put into the output.
 abbrev pub PutsTextLine : {W : Type 0} → (W → W → List ℕ → Type 0) → Option (List ℕ) → W → W → Type 0
@@ -12,11 +10,6 @@ PutsTextLine takes shown old new = IfSome shown (λ text. takes old new (text ++
 abbrev pub EitherFailed : {R W : Type 0} → (R → Type 0) → R → (W → Type 0) → W → W → Type 0
 EitherFailed ReadingFailed input WritingFailed old new =
     (ReadingFailed input × (new ≡ old)) ⊎ WritingFailed new
-
--- The error, if there is one and it isn't that the message is none, comes with such a failure.
-abbrev pub IfEitherFailed : {R W : Type 0} → Result (Unit {0}) ToolError → (R → Type 0) → R → (W → Type 0) → W → W → Type 0
-IfEitherFailed result ReadingFailed input WritingFailed old new =
-    IfStreamFailed result (EitherFailed ReadingFailed input WritingFailed old new)
 
 -- All that was put into the output was sent on; or nothing was put, and it is as it was.
 abbrev pub IsSentIfPut : {W : Type 0} → (W → Type 0) → W → W → Type 0

@@ -1,6 +1,6 @@
 -- What contracts say of the lines that were put. `Puts` says so of a text, as `W.takes output.old output.new` does;
 -- `g` is `W.Sink`.
-use Rattle.std.specs.Prelude.{◌≡◌, ℕ, Bool, List, [], ◌∷◌, ◌++◌, IfSome}
+use Rattle.std.specs.Prelude.{◌≡◌, ℕ, Bool, List, [], ◌∷◌, ◌++◌}
 use Rattle.std.specs.List.{list_any}
 use Rattle.octseq.specs.Parsing.{message, position}
 use Rattle.octseq.specs.declared.parse.Parser.{Parser}
@@ -12,9 +12,8 @@ use Rattle.domain_message.specs.RecordModel.{record_fields}
 use Rattle.domain_message.specs.declared.record.ParsedRecord.{ParsedRecord}
 use Rattle.domain_message.specs.declared.section.Section.{Section}
 use Rattle.domain_lines.specs.Edns.{AreOptionLines}
-use Rattle.domain_lines.specs.declared.streams.Source.{Ghosts as SourceMembers}
 use Rattle.domain_lines.specs.declared.streams.Sink.{Ghosts as SinkMembers}
-use Rattle.domain_lines.specs.Messages.{IsQuestionText, WritesAll, WritesSome, ShowsQuestions, ShowsAnswers, ShowsAuthority, ShowsSection, StopsInSection, PutsUntil, WritesMessage, WritesUntil}
+use Rattle.domain_lines.specs.Messages.{IsQuestionText, WritesAll, WritesSome, ShowsQuestions, ShowsAnswers, ShowsAuthority, ShowsSection, StopsInSection, ShowsRest, PutsUntil}
 use Rattle.domain_lines.specs.Records.{IsRecordLine, is_opt_in, IsOptText, IsEntryText}
 
 -- What shows this was put.
@@ -90,6 +89,10 @@ abbrev pub PutsAuthority : {W : Type 0} → Parser → Parser → SinkMembers W 
 PutsAuthority old new g before after =
     Wrote (ShowsAuthority (message old) (position new)) (g.takes before after)
 
+-- The additional section was put, from where the parser was, and how many octets follow it.
+abbrev pub PutsRest : {W : Type 0} → Parser → SinkMembers W → W → W → Type 0
+PutsRest old g before after = Wrote (ShowsRest (message old) (position old)) (g.takes before after)
+
 -- The message can't be shown to its end, and why, and the text that shows all before that was put.
 abbrev pub PutsPart : List ℕ → (List ℕ → Type 0) → ParseError → Type 0
 PutsPart m Puts why = PutsUntil m why Puts
@@ -97,14 +100,3 @@ PutsPart m Puts why = PutsUntil m why Puts
 -- The same of the message that is parsed.
 abbrev pub PutsPartOf : {W : Type 0} → Parser → SinkMembers W → W → W → ParseError → Type 0
 PutsPartOf parser g before after why = PutsUntil (message parser) why (g.takes before after)
-
--- The text that shows the message that there is to read was written, where it is known what is there. `r` is
--- `R.Source`.
-abbrev pub ShowsGiven : {R W : Type 0} → SourceMembers R → R → SinkMembers W → W → W → Type 0
-ShowsGiven r input g before after =
-    IfSome (r.remaining input) (λ m. WritesMessage m (g.contents before) (g.contents after))
-
--- That message can't be shown to its end, and why, and the text that shows all before that was written.
-abbrev pub ShowsPart : {R W : Type 0} → SourceMembers R → R → SinkMembers W → W → W → ParseError → Type 0
-ShowsPart r input g before after why =
-    IfSome (r.remaining input) (λ m. WritesUntil m why (g.contents before) (g.contents after))

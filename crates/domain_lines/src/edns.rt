@@ -3,8 +3,8 @@ ghost use Rattle.std.specs.Prelude.{◌≡◌, ◌↔◌, Some, IsTrue, OnOk, On
 ghost use Rattle.std.specs.List.{flat_map};
 ghost use Rattle.domain_header.specs.Values.{class_number, ttl_seconds, rcode_number};
 ghost use Rattle.domain_rdata.specs.AnyData.{spaced_octet};
-ghost use Rattle.domain_message.specs.OptRecords.{dnssec_ok_bit};
-ghost use Rattle.domain_lines.specs.Edns.{compact_ok_bit, zero_text, status_text, edns_line, option_line, cut_option_line};
+ghost use Rattle.domain_message.specs.OptRecords.{dnssec_ok_bit, compact_ok_bit};
+ghost use Rattle.domain_lines.specs.Edns.{zero_text, status_text, edns_line, option_line, cut_option_line};
 ghost use Rattle.domain_lines.specs.Writing.{PutsOptions};
 
 use crate::flags::word_if;
@@ -110,8 +110,8 @@ impl fmt::Display for EdnsLine {
 
 /// Each octet as a space and two hexadecimal digits.
 #[derive(Clone, Copy)]
-struct HexPairs<'a> {
-    octets: &'a [u8],
+pub(crate) struct HexPairs<'a> {
+    pub(crate) octets: &'a [u8],
 }
 
 impl<'a> fmt::Display for HexPairs<'a> {

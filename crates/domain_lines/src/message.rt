@@ -1,26 +1,26 @@
 //! A message, shown in presentation format: the header, the questions, and the records of each section.
-ghost use Rattle.std.specs.Prelude.{◌≡◌, ◌≤◌, length, Some, OnOk};
-ghost use Rattle.std.specs.Io.KnownBytes.{IsAtEnd};
+ghost use Rattle.std.specs.Prelude.{◌≡◌, ◌≤◌, length, Some, OnOk, OnErr};
 ghost use Rattle.octseq.specs.Parsing.{message, position, MovesTo};
 ghost use Rattle.domain_header.specs.Values.{rcode_number};
 ghost use Rattle.domain_message.specs.Sections.{counted_records};
-ghost use Rattle.domain_tool.specs.Engines.{IfRefused, OnAnswer};
+ghost use Rattle.domain_message.specs.declared.section.Section.TheVariants.{Additional};
+ghost use Rattle.domain_tool.specs.Engines.{IfRefused};
 ghost use Rattle.domain_lines.specs.Failures.{IfWritingFailed};
-ghost use Rattle.domain_lines.specs.Messages.{flags_text, codes_line, counts_line, header_text, header_rcode, section_heading, PutsMessage};
-ghost use Rattle.domain_lines.specs.Streams.{IfEitherFailed};
+ghost use Rattle.domain_lines.specs.Messages.{flags_text, codes_line, counts_line, header_text, header_rcode, section_heading, zone_question, trailing_line, trailing_text, PutsMessage};
 ghost use Rattle.domain_lines.specs.Writing.{PutsQuestions, FewerAsked, PutsRecords, FewerRecords, PutsSection, StopsIn};
-ghost use Rattle.domain_lines.specs.Writing.{PutsAsked, PutsAnswers, PutsAuthority, PutsPart, PutsPartOf, ShowsGiven, ShowsPart};
+ghost use Rattle.domain_lines.specs.Writing.{PutsAsked, PutsAnswers, PutsAuthority, PutsRest, PutsPart, PutsPartOf};
 
 use crate::flags::word_if;
+use crate::name::ZoneName;
 use crate::record::write_entry;
-use crate::streams::{Sink, Source};
+use crate::streams::Sink;
 use domain_header::{Header, HeaderCounts, Rcode};
-use domain_message::{ParsedRecord, Question, Section};
-use domain_tool::tool::ToolError;
+use domain_message::{ParsedRecord, Question, RtypeText, Section};
+use domain_parsed::ParsedName;
+use domain_tool::tool::{ToolError, WriteFault};
 use domain_wire::ParseError;
 use domain_wire::parse::Parse;
 use octseq::Parser;
-use std::alloc::Global;
 use std::fmt;
 
 /// The flags that are set, a space before each, and the bit Z, which must be zero.
@@ -133,6 +133,27 @@ fn write_header<W: Sink>(message: &[u8], output: &mut W) -> Result<(), ToolError
     Ok(())
 }
 
+/// A question: name, class and type.
+#[derive(Clone, Copy)]
+struct QuestionLine<'a> {
+    question: Question<ParsedName<&'a [u8]>>,
+}
+
+impl<'a> fmt::Display for QuestionLine<'a> {
+    ghost use Rattle.domain_message.specs.Models.{question_fields};
+
+    ghost output = { λ it. Some (zone_question (question_fields it.question)) };
+
+    fn fmt<W: fmt::Write>(&self, f: &mut fmt::Formatter<W>) -> fmt::Result {
+        let name = ZoneName {
+            name: self.question.qname(),
+        };
+        let class = self.question.qclass();
+        let rtype = RtypeText::new(self.question.qtype());
+        write!(f, "{name} {class} {rtype}")
+    }
+}
+
 /// Writes the lines of this many questions, and moves the parser past them.
 fn write_questions<W: Sink>(
     count: u16,
@@ -150,7 +171,7 @@ fn write_questions<W: Sink>(
             Ok(question) => question,
             Err(e) => return Err(ToolError::Parse(e)),
         };
-        output.put_line(question)?;
+        output.put_line(QuestionLine { question })?;
     }
     Ok(())
 }
@@ -270,7 +291,54 @@ fn write_to_authority<W: Sink>(parser: &mut Parser<'_>, output: &mut W) -> Resul
     write_section(Section::Authority, parser, output)
 }
 
-/// Writes the header, the questions, and the records of each section.
+/// Octets that follow the last record.
+#[derive(Clone, Copy)]
+struct TrailingLine {
+    count: usize,
+}
+
+impl fmt::Display for TrailingLine {
+    ghost output = { λ it. Some (trailing_line it.count) };
+
+    fn fmt<W: fmt::Write>(&self, f: &mut fmt::Formatter<W>) -> fmt::Result {
+        let count = self.count;
+        write!(f, "; trailing octets: {count}")
+    }
+}
+
+/// Writes how many octets follow the last record, if any do.
+fn write_trailing<W: Sink>(count: usize, output: &mut W) -> Result<(), WriteFault>
+    ensures written { OnOk result (W.takes output.old output.new (trailing_text count)) }
+    ensures failed { OnErr result (W.failed output.new) }
+{
+    if count == 0 {
+        return Ok(());
+    }
+    output.put_line(TrailingLine { count })?;
+    Ok(())
+}
+
+/// Writes the additional section, and how many octets follow it.
+fn write_rest<W: Sink>(parser: &mut Parser<'_>, output: &mut W) -> Result<(), ToolError>
+    requires { 12 ≤ length (message parser.old) }
+    ensures written { OnOk result (PutsRest parser.old W.Sink output.old output.new) }
+    ensures refused { IfRefused result
+        (StopsIn Additional parser.old W.Sink output.old output.new) }
+    ensures failed { IfWritingFailed result (W.failed output.new) }
+{
+    if let Err(e) = write_section(Section::Additional, parser, output) {
+        return Err(e);
+    }
+    write_trailing(parser.remaining(), output)?;
+    Ok(())
+}
+
+/// Writes the message in presentation format: two lines of the header, and for each section its heading and a line for
+/// each question or record. A last line says how many octets follow the last record, if any do.
+///
+/// Data of a record that can't be read is shown in the form of RFC 3597, 5, with the reason after it. An OPT record of
+/// the root in the additional section has a line of its version, flags and size, and one for each option (RFC 6891,
+/// 6.1).
 ///
 /// `Parse` says why the message can't be shown to its end: it has fewer than twelve octets, or a question or record
 /// that the header counts is missing. All lines before that are written. The other errors are of writing.
@@ -286,32 +354,5 @@ pub fn write_message<W: Sink>(message: &[u8], output: &mut W) -> Result<(), Tool
     if let Err(e) = write_to_authority(&mut parser, output) {
         return Err(e);
     }
-    write_section(Section::Additional, &mut parser, output)
-}
-
-/// Reads the input to its end, and writes the message in presentation format: two lines of the header, and for each
-/// section its heading and a line for each question or record.
-///
-/// Data of a record that can't be read is shown in the form of RFC 3597, 5, with the reason after it. An OPT record of
-/// the root in the additional section has a line of its version, flags and size, and one for each option (RFC 6891,
-/// 6.1).
-///
-/// `Parse` says why the message can't be shown to its end: it has fewer than twelve octets, or a question or record
-/// that the header counts is missing. All lines before that are written. `Read`, `Write` or `Memory` where one of
-/// these failed.
-pub fn show_message<R: Source, W: Sink>(
-    alloc: Global,
-    input: &mut R,
-    output: &mut W,
-) -> Result<(), ToolError>
-    ensures whole { OnAnswer result (IsAtEnd (R.remaining input.new)) }
-    ensures written { OnOk result (ShowsGiven R.Source input.old W.Sink output.old output.new) }
-    ensures refused { IfRefused result (ShowsPart R.Source input.old W.Sink output.old output.new) }
-    ensures failed { IfEitherFailed result R.failed input.new W.failed output.old output.new }
-{
-    let octets = match input.read_whole(alloc) {
-        Ok(octets) => octets,
-        Err(e) => return Err(e),
-    };
-    write_message(octets.as_slice(), output)
+    write_rest(&mut parser, output)
 }

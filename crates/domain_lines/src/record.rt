@@ -1,18 +1,21 @@
 //! The lines of a record.
 ghost use Rattle.std.specs.Prelude.{◌≡◌, ◌↔◌, Some, IsTrue, OnOk, OnErr, IfOk};
 ghost use Rattle.domain_message.specs.RecordModel.{record_fields};
-ghost use Rattle.domain_lines.specs.Records.{bare_text, unread_text, IsBare, has_opt_head, is_opt_in};
+ghost use Rattle.domain_all_data.specs.AllData.{fields_text};
+ghost use Rattle.domain_all_data.specs.AllTypes.{all_fields};
+ghost use Rattle.domain_lines.specs.Records.{bare_text, line_text, unread_text, IsBare, has_opt_head, is_opt_in};
 ghost use Rattle.domain_lines.specs.Edns.{another_text};
 ghost use Rattle.domain_lines.specs.Writing.{PutsLine, PutsOpt, PutsEntry, TellsOpt};
 
-use crate::edns::{EdnsLine, write_options};
+use crate::edns::{EdnsLine, HexPairs, write_options};
+use crate::name::ZoneName;
 use crate::streams::Sink;
 use domain_all_data::AllRecordData;
 use domain_header::Rcode;
-use domain_message::{ParsedRecord, Record, RtypeText, Section};
+use domain_message::{ParsedRecord, RtypeText, Section};
+use domain_parsed::ParsedName;
 use domain_rdata::ParseAnyRecordData;
 use domain_tool::tool::WriteFault;
-use domain_traits::ToName;
 use domain_wire::ParseError;
 use std::fmt;
 
@@ -27,10 +30,30 @@ impl<'a> fmt::Display for BareLine<'a> {
 
     fn fmt<W: fmt::Write>(&self, f: &mut fmt::Formatter<W>) -> fmt::Result {
         let owner = self.record.owner();
-        let owner = owner.fmt_with_dot();
+        let owner = ZoneName { name: &owner };
         let (ttl, class) = (self.record.ttl(), self.record.class());
         let rtype = RtypeText::new(self.record.rtype());
         write!(f, "{owner} {ttl} {class} {rtype}")
+    }
+}
+
+/// A record whose data was read by its type.
+#[derive(Drop)]
+struct TypedLine<'a> {
+    record: ParsedRecord<'a>,
+    rdata: AllRecordData<&'a [u8], ParsedName<&'a [u8]>>,
+}
+
+impl<'a> fmt::Display for TypedLine<'a> {
+    ghost output = { λ it.
+        Some (line_text (record_fields it.record) (fields_text (all_fields it.rdata))) };
+
+    fn fmt<W: fmt::Write>(&self, f: &mut fmt::Formatter<W>) -> fmt::Result {
+        let owner = self.record.owner();
+        let owner = ZoneName { name: &owner };
+        let (ttl, class) = (self.record.ttl(), self.record.class());
+        let rtype = RtypeText::new(self.record.rtype());
+        write!(f, "{owner} {ttl} {class} {rtype} {}", self.rdata)
     }
 }
 
@@ -45,8 +68,15 @@ impl<'a> fmt::Display for UnreadLine<'a> {
     ghost output = { λ it. Some (unread_text (record_fields it.record) it.why) };
 
     fn fmt<W: fmt::Write>(&self, f: &mut fmt::Formatter<W>) -> fmt::Result {
-        let (record, why) = (self.record, self.why);
-        write!(f, "{record} ; {why}")
+        let owner = self.record.owner();
+        let owner = ZoneName { name: &owner };
+        let (ttl, class) = (self.record.ttl(), self.record.class());
+        let rtype = RtypeText::new(self.record.rtype());
+        let octets = self.record.data_octets();
+        let len = octets.len();
+        let digits = HexPairs { octets };
+        let why = self.why;
+        write!(f, "{owner} {ttl} {class} {rtype} \\# {len}{digits} ; {why}")
     }
 }
 
@@ -70,8 +100,8 @@ pub fn write_record<W: Sink>(found: &ParsedRecord<'_>, output: &mut W) -> Result
     let mut data = found.data();
     match AllRecordData::parse_any_rdata(found.rtype(), &mut data) {
         Ok(rdata) => {
-            let record = Record::new(found.owner(), found.class(), found.ttl(), rdata);
-            output.put_line(record)?;
+            let record = *found;
+            output.put_line(TypedLine { record, rdata })?;
             Ok(())
         }
         Err(why) => {

@@ -12,19 +12,19 @@ use Rattle.domain_make.specs.Drafts.{Draft, IsBlankDraft, IsAsked, IsRemark, IsL
 use Rattle.domain_make.specs.Drafts.LineSays.{empty, remark, asked, question, entry}
 use Rattle.domain_make.specs.Drafts.LinesSay.{none, line}
 use Rattle.domain_make.specs.Entries.{IsQuestionWords, IsRecordWords}
-use Rattle.domain_data_text.specs.Faults.{IfFault}
+use Rattle.domain_make.specs.Stops.{IfFault}
 use Rattle.domain_make.specs.Made.{IsMade, IfLine}
 use Rattle.domain_make.specs.Refusals.{RefusesLine, StopsAtLine, StopsFrom, EntriesHaveRoom}
 use Rattle.domain_make.specs.Remarks.{IsTrimmed, Remarks}
-use Rattle.domain_data_text.specs.Words.{WordAt, words_at, AreWords}
-use Rattle.domain_data_text.specs.declared.words.Word.{Word}
+use Rattle.domain_make.specs.Words.{WordAt, words_at, AreWords}
+use Rattle.domain_make.specs.declared.words.Word.{Word}
 use Rattle.domain_make.specs.declared.error.LineError.{LineError}
 use Rattle.domain_make.specs.declared.error.MakeError.{MakeError}
 use Rattle.domain_make.specs.declared.error.MakeError.TheVariants.{Line, Read, Write, Memory}
 use Rattle.domain_make.specs.declared.remark.Stage.{Stage}
 use Rattle.domain_make.specs.declared.remark.Stage.TheVariants.{Start, Questions, Records}
-use Rattle.domain_data_text.specs.declared.error.Stop.{Stop}
-use Rattle.domain_data_text.specs.declared.error.Stop.TheVariants.{Refused}
+use Rattle.domain_make.specs.declared.error.Stop.{Stop}
+use Rattle.domain_make.specs.declared.error.Stop.TheVariants.{Refused}
 use Rattle.domain_make.proofs.Refusing.{accepted}
 
 -- What follows where a call succeeds.
@@ -70,7 +70,7 @@ pub takes_asked : (c : Bool) (l : List ℕ) (old new : State) (words : List Word
 takes_asked c l old new words q begins are says pushed = λ d is. (record d { content = question_added d.content q }, asked words q is.stage_is begins are says refl, after_question c q old new d pushed is)
 
 -- A record was pushed.
-pub takes_record : (c : Bool) (l : List ℕ) (section : Section) (old new : State) (words : List WordAt) (head : RecordHead) (octets : List ℕ) → slice_index l 0 ≢ 59 → AreWords l 0 words → IsRecordWords words head octets
+pub takes_record : (c : Bool) (l : List ℕ) (section : Section) (old new : State) (words : List WordAt) (head : RecordHead) (octets : List ℕ) → slice_index l 0 ≢ 59 → AreWords l 0 words → IsRecordWords l words head octets
     → PushesRecord c section head (λ _ s. s ≡ octets) old new → DraftsLine c l (Records section) old (Records section) new
 takes_record c l section old new words head octets plain are says pushed = λ d is.
     let it : List ℕ → Content = λ o. record_added section d.content (record { head = head; rdata = o }) in (

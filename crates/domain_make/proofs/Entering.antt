@@ -1,6 +1,6 @@
 -- Questions and records of words, and what is reported where they are none or aren't pushed.
-use Rattle.std.proofs.Common.{◌≡◌, ℕ, zero, suc, ◌-◌, ◌<◌, ◌≤◌, Bool, List, [], ◌∷◌, length, get_or, take, drop, refl, sym, ap, subst, ◌∙◌, arith, inl, inr}
-use Rattle.std.specs.Prelude.{◌⊎◌}
+use Rattle.std.proofs.Common.{◌≡◌, ℕ, zero, suc, ◌-◌, ◌<◌, ◌≤◌, Bool, true, false, List, [], ◌∷◌, length, get_or, take, drop, refl, sym, ap, subst, ◌∙◌, arith, inl, inr}
+use Rattle.std.proofs.lemmas.List.{length-map}
 use Rattle.domain_message.specs.Entries.{QuestionFields}
 use Rattle.domain_message.specs.declared.section.Section.{Section}
 use Rattle.domain_message_builder.specs.Contents.{RecordHead}
@@ -8,23 +8,24 @@ use Rattle.domain_message_builder.specs.Refusals.{QuestionRefused, RecordRefused
 use Rattle.domain_message_builder.specs.State.{State}
 use Rattle.domain_message_builder.specs.declared.error.PushError.{PushError}
 use Rattle.domain_message_builder.specs.declared.error.PushError.TheVariants.{Append, Long, Count, Limit, Order}
-use Rattle.domain_data_text.specs.Data.{IsData}
-use Rattle.domain_make.specs.Entries.{IsClassWord, IsTypeWord, first_column, IsQuestionWords, IsRecordWords}
-use Rattle.domain_data_text.specs.Faults.{IfFault, NoName, NoNumber32, NoData}
-use Rattle.domain_make.specs.Faults.{NoClass, NoType, NoQuestionWords, NoRecordWords, BeginsRecord, LongRecord}
+use Rattle.domain_make.specs.Data.{IsData}
+use Rattle.domain_make.specs.Entries.{IsClassWord, IsTypeWord, begins_with_digit, AreStated, first_column, IsQuestionWords, IsRecordWords}
+use Rattle.domain_make.specs.Stops.{IfFault, NoName, NoNumber32, NoData}
+use Rattle.domain_make.specs.Faults.{NoClass, NoType, NoQuestionWords, NoStated, NoFittingRecord, BeginsRecord}
+use Rattle.domain_make.specs.Faults.NoStated.{no_ttl, ttl_alone, no_class, class_alone}
 use Rattle.domain_make.specs.Faults.NoQuestionWords.{name as question_lacks_name, class as question_lacks_class, rtype as question_lacks_type}
-use Rattle.domain_make.specs.Faults.NoRecordWords.{owner as record_lacks_owner, ttl as record_lacks_ttl, class as record_lacks_class, rtype as record_lacks_type, rdata as record_lacks_data}
-use Rattle.domain_data_text.specs.Parts.{IsNameWord, IsNumber32}
+use Rattle.domain_make.specs.Faults.NoRecordWords.{owner as record_lacks_owner, stated as record_lacks_stated, rtype as record_lacks_type, rdata as record_lacks_data}
+use Rattle.domain_make.specs.Parts.{IsNameWord, IsNumber32}
 use Rattle.domain_make.specs.Refusals.{TellsPush, QuestionStops, RecordStops, NoPushedQuestion, NoPushedRecord}
 use Rattle.domain_make.specs.Refusals.NotPushed.{long, order, many, limit}
 use Rattle.domain_make.specs.Refusals.NoPushedQuestion.{no_question, stopped as question_stopped_by}
 use Rattle.domain_make.specs.Refusals.NoPushedRecord.{no_record, stopped as record_stopped_by}
-use Rattle.domain_data_text.specs.Words.{WordAt, word_at, words_at}
-use Rattle.domain_data_text.specs.declared.error.Fault.{Fault}
-use Rattle.domain_data_text.specs.declared.error.Fault.TheVariants as fault
-use Rattle.domain_data_text.specs.declared.error.Stop.{Stop}
-use Rattle.domain_data_text.specs.declared.words.Word.{Word}
-use Rattle.domain_data_text.proofs.Telling.{if_refused}
+use Rattle.domain_make.specs.Words.{WordAt, word_at, words_at}
+use Rattle.domain_make.specs.declared.error.Fault.{Fault}
+use Rattle.domain_make.specs.declared.error.Fault.TheVariants as fault
+use Rattle.domain_make.specs.declared.error.Stop.{Stop}
+use Rattle.domain_make.specs.declared.words.Word.{Word}
+use Rattle.domain_make.proofs.Telling.{if_refused}
 
 -- what a slice of words has past its end
 abbrev pub no_word : Word
@@ -51,6 +52,9 @@ four (a ∷ b ∷ []) is = absurd (omega (arith, is))
 four (a ∷ b ∷ x ∷ []) is = absurd (omega (arith, is))
 four (a ∷ b ∷ x ∷ y ∷ ws) is = ap (λ z. a ∷ b ∷ x ∷ y ∷ z) (sym (take_all ws (length (a ∷ b ∷ x ∷ y ∷ ws) - 4) (omega arith)))
 
+pub some_words : (words : List Word) → 0 < length words → 0 < length (words_at words)
+some_words words some = omega (arith, length-map words word_at, some)
+
 -- ---- questions
 
 pub question_is : (words : List Word) (n k t : Word) (q : QuestionFields) → words ≡ n ∷ k ∷ t ∷ [] → IsNameWord n.octets.now q.name → IsClassWord k.octets.now q.class → IsTypeWord t.octets.now q.rtype → IsQuestionWords (words_at words) q
@@ -75,73 +79,79 @@ pub question_no_type : (words : List Word) (n k t : Word) (ls : List (List ℕ))
 question_no_type words n k t ls number e is name_is class_is h =
     if_refused (NoType (word_at t)) (NoQuestionWords (words_at words)) e (λ f c lack. question_lacks_type (word_at n) (word_at k) (word_at t) ls number (ap words_at is) name_is class_is lack) h
 
+-- ---- a TTL and a class
+
+pub stated_no_ttl : (a b : WordAt) (e : Stop) → begins_with_digit a.octets ≡ true → IfFault e (NoNumber32 a) → IfFault e (NoStated a b)
+stated_no_ttl a b e digit h = if_refused (NoNumber32 a) (NoStated a b) e (λ f c lack. no_ttl digit lack) h
+
+pub stated_ttl_alone : (a b : WordAt) (n : ℕ) (e : Stop) → begins_with_digit a.octets ≡ true → IsNumber32 a.octets n → IfFault e (NoClass b) → IfFault e (NoStated a b)
+stated_ttl_alone a b n e digit ttl h = if_refused (NoClass b) (NoStated a b) e (λ f c lack. ttl_alone n digit ttl lack) h
+
+pub stated_no_class : (a b : WordAt) (e : Stop) → begins_with_digit a.octets ≡ false → IfFault e (NoClass a) → IfFault e (NoStated a b)
+stated_no_class a b e other h = if_refused (NoClass a) (NoStated a b) e (λ f c lack. no_class other lack) h
+
+pub stated_class_alone : (a b : WordAt) (n : ℕ) (e : Stop) → begins_with_digit a.octets ≡ false → IsClassWord a.octets n → IfFault e (NoNumber32 b) → IfFault e (NoStated a b)
+stated_class_alone a b n e other named h = if_refused (NoNumber32 b) (NoStated a b) e (λ f c lack. class_alone n other named lack) h
+
 -- ---- records
 
-pub record_no_owner : (words : List Word) (o s k t : Word) (rest : List Word) (e : Stop) → words ≡ o ∷ s ∷ k ∷ t ∷ rest → IfFault e (NoName (word_at o)) → IfFault e (λ f c. NoRecordWords (words_at words) f c ⊎ LongRecord (words_at words) f c)
-record_no_owner words o s k t rest e is h =
-    if_refused (NoName (word_at o)) (λ f c. NoRecordWords (words_at words) f c ⊎ LongRecord (words_at words) f c) e (λ f c lack. inl (record_lacks_owner (word_at o) (word_at s) (word_at k) (word_at t) (words_at rest) (ap words_at is) lack)) h
+pub record_no_owner : (l : List ℕ) (words : List Word) (o a b t : Word) (rest : List Word) (e : Stop) → words ≡ o ∷ a ∷ b ∷ t ∷ rest → IfFault e (NoName (word_at o)) → IfFault e (NoFittingRecord l (words_at words))
+record_no_owner l words o a b t rest e is h =
+    if_refused (NoName (word_at o)) (NoFittingRecord l (words_at words)) e (λ f c lack. inl (record_lacks_owner (word_at o) (word_at a) (word_at b) (word_at t) (words_at rest) (ap words_at is) lack)) h
 
-pub record_no_ttl : (words : List Word) (o s k t : Word) (rest : List Word) (ls : List (List ℕ)) (e : Stop) → words ≡ o ∷ s ∷ k ∷ t ∷ rest → IsNameWord o.octets.now ls → IfFault e (NoNumber32 (word_at s))
-    → IfFault e (λ f c. NoRecordWords (words_at words) f c ⊎ LongRecord (words_at words) f c)
-record_no_ttl words o s k t rest ls e is name_is h =
-    if_refused (NoNumber32 (word_at s)) (λ f c. NoRecordWords (words_at words) f c ⊎ LongRecord (words_at words) f c) e
-    (λ f c lack. inl (record_lacks_ttl (word_at o) (word_at s) (word_at k) (word_at t) (words_at rest) ls (ap words_at is) name_is lack)) h
+pub record_no_stated : (l : List ℕ) (words : List Word) (o a b t : Word) (rest : List Word) (ls : List (List ℕ)) (e : Stop) → words ≡ o ∷ a ∷ b ∷ t ∷ rest → IsNameWord o.octets.now ls → IfFault e (NoStated (word_at a) (word_at b))
+    → IfFault e (NoFittingRecord l (words_at words))
+record_no_stated l words o a b t rest ls e is name_is h =
+    if_refused (NoStated (word_at a) (word_at b)) (NoFittingRecord l (words_at words)) e
+    (λ f c lack. inl (record_lacks_stated (word_at o) (word_at a) (word_at b) (word_at t) (words_at rest) ls (ap words_at is) name_is lack)) h
 
-pub record_no_class : (words : List Word) (o s k t : Word) (rest : List Word) (ls : List (List ℕ)) (seconds : ℕ) (e : Stop) → words ≡ o ∷ s ∷ k ∷ t ∷ rest → IsNameWord o.octets.now ls → IsNumber32 s.octets.now seconds → IfFault e (NoClass (word_at k))
-    → IfFault e (λ f c. NoRecordWords (words_at words) f c ⊎ LongRecord (words_at words) f c)
-record_no_class words o s k t rest ls seconds e is name_is ttl_is h =
-    if_refused (NoClass (word_at k)) (λ f c. NoRecordWords (words_at words) f c ⊎ LongRecord (words_at words) f c) e
-    (λ f c lack. inl (record_lacks_class (word_at o) (word_at s) (word_at k) (word_at t) (words_at rest) ls seconds (ap words_at is) name_is ttl_is lack)) h
-
-pub record_no_type : (words : List Word) (o s k t : Word) (rest : List Word) (ls : List (List ℕ)) (seconds number : ℕ) (e : Stop) → words ≡ o ∷ s ∷ k ∷ t ∷ rest → IsNameWord o.octets.now ls → IsNumber32 s.octets.now seconds
-    → IsClassWord k.octets.now number → IfFault e (NoType (word_at t)) → IfFault e (λ f c. NoRecordWords (words_at words) f c ⊎ LongRecord (words_at words) f c)
-record_no_type words o s k t rest ls seconds number e is name_is ttl_is class_is h =
-    if_refused (NoType (word_at t)) (λ f c. NoRecordWords (words_at words) f c ⊎ LongRecord (words_at words) f c) e
-    (λ f c lack. inl (record_lacks_type (word_at o) (word_at s) (word_at k) (word_at t) (words_at rest) ls seconds number (ap words_at is) name_is ttl_is class_is lack)) h
+pub record_no_type : (l : List ℕ) (words : List Word) (o a b t : Word) (rest : List Word) (ls : List (List ℕ)) (seconds class : ℕ) (e : Stop) → words ≡ o ∷ a ∷ b ∷ t ∷ rest → IsNameWord o.octets.now ls
+    → AreStated (word_at a) (word_at b) seconds class → IfFault e (NoType (word_at t)) → IfFault e (NoFittingRecord l (words_at words))
+record_no_type l words o a b t rest ls seconds class e is name_is stated h =
+    if_refused (NoType (word_at t)) (NoFittingRecord l (words_at words)) e
+    (λ f c lack. inl (record_lacks_type (word_at o) (word_at a) (word_at b) (word_at t) (words_at rest) ls seconds class (ap words_at is) name_is stated lack)) h
 
 -- The words begin as a record.
-pub begins_record : (words : List Word) (o s k t : Word) (rest : List Word) (ls : List (List ℕ)) (seconds class rtype : ℕ) → words ≡ o ∷ s ∷ k ∷ t ∷ rest → IsNameWord o.octets.now ls → IsNumber32 s.octets.now seconds → IsClassWord k.octets.now class
+pub begins_record : (words : List Word) (o a b t : Word) (rest : List Word) (ls : List (List ℕ)) (seconds class rtype : ℕ) → words ≡ o ∷ a ∷ b ∷ t ∷ rest → IsNameWord o.octets.now ls → AreStated (word_at a) (word_at b) seconds class
     → IsTypeWord t.octets.now rtype → BeginsRecord (words_at words) rtype class (word_at t) (words_at rest)
-begins_record words o s k t rest ls seconds class rtype is name_is ttl_is class_is type_is = record {
+begins_record words o a b t rest ls seconds class rtype is name_is stated type_is = record {
   owner = word_at o;
-  ttl = word_at s;
-  class_word = word_at k;
+  first = word_at a;
+  second = word_at b;
   labels = ls;
   seconds = seconds;
   parts = ap words_at is;
   owner_is = name_is;
-  ttl_is = ttl_is;
-  class_is = class_is;
+  stated_are = stated;
   type_is = type_is;
 }
 
-pub record_no_data : (words : List WordAt) (rtype class : ℕ) (t : WordAt) (rest : List WordAt) (e : Stop) → BeginsRecord words rtype class t rest → IfFault e (NoData rtype class t.column rest) → IfFault e (λ f c. NoRecordWords words f c ⊎ LongRecord words f c)
-record_no_data words rtype class t rest e begins h =
-    if_refused (NoData rtype class t.column rest) (λ f c. NoRecordWords words f c ⊎ LongRecord words f c) e (λ f c lack. inl (record_lacks_data rtype class t rest begins lack)) h
+pub record_no_data : (l : List ℕ) (words : List WordAt) (rtype class : ℕ) (t : WordAt) (rest : List WordAt) (e : Stop) → BeginsRecord words rtype class t rest → IfFault e (NoData rtype class l rest) → IfFault e (NoFittingRecord l words)
+record_no_data l words rtype class t rest e begins h =
+    if_refused (NoData rtype class l rest) (NoFittingRecord l words) e (λ f c lack. inl (record_lacks_data rtype class t rest begins lack)) h
 
-pub record_is : (words : List WordAt) (head : RecordHead) (t : WordAt) (rest : List WordAt) (begins : BeginsRecord words head.rtype head.class t rest) (octets : List ℕ) → begins.labels ≡ head.owner → begins.seconds ≡ head.ttl → IsData head.rtype head.class rest octets
-    → IsRecordWords words head octets
-record_is words head t rest begins octets same_owner same_ttl data_is = record {
+pub record_is : (l : List ℕ) (words : List WordAt) (head : RecordHead) (t : WordAt) (rest : List WordAt) (begins : BeginsRecord words head.rtype head.class t rest) (octets : List ℕ) → begins.labels ≡ head.owner → begins.seconds ≡ head.ttl
+    → IsData head.rtype head.class l rest octets → IsRecordWords l words head octets
+record_is l words head t rest begins octets same_owner same_ttl data_is = record {
   owner = begins.owner;
-  ttl = begins.ttl;
-  class = begins.class_word;
+  first = begins.first;
+  second = begins.second;
   rtype = t;
   rest = rest;
   parts = begins.parts;
   owner_is = subst (λ ls. IsNameWord begins.owner.octets ls) same_owner begins.owner_is;
-  ttl_is = subst (λ n. IsNumber32 begins.ttl.octets n) same_ttl begins.ttl_is;
-  class_is = begins.class_is;
+  stated_are = subst (λ n. AreStated begins.first begins.second n head.class) same_ttl begins.stated_are;
   type_is = begins.type_is;
   data_is = data_is;
 }
 
 -- A record whose data has more octets than its length tells.
-pub long_data : (words : List WordAt) (ls : List (List ℕ)) (seconds class rtype to_class to_type : ℕ) (t : WordAt) (rest : List WordAt) (octets : List ℕ) (column : ℕ) → (begins : BeginsRecord words rtype class t rest) → begins.labels ≡ ls → begins.seconds ≡ seconds
-    → to_type ≡ rtype → to_class ≡ class → IsData to_type to_class rest octets → 65535 < length octets → column ≡ first_column words → NoRecordWords words fault.Octets column ⊎ LongRecord words fault.Octets column
-long_data words ls seconds class rtype to_class to_type t rest octets column begins same_owner same_ttl type_is class_is data_is big first =
+pub long_data : (l : List ℕ) (words : List WordAt) (ls : List (List ℕ)) (seconds class rtype to_class to_type : ℕ) (t : WordAt) (rest : List WordAt) (octets : List ℕ) (column : ℕ) → (begins : BeginsRecord words rtype class t rest) → begins.labels ≡ ls
+    → begins.seconds ≡ seconds → to_type ≡ rtype → to_class ≡ class → IsData to_type to_class l rest octets → 65535 < length octets → column ≡ first_column words → NoFittingRecord l words fault.Octets column
+long_data l words ls seconds class rtype to_class to_type t rest octets column begins same_owner same_ttl type_is class_is data_is big first =
     let head : RecordHead = record { owner = ls; rtype = rtype; class = class; ttl = seconds } in
-    let its_data : IsData rtype class rest octets = subst (λ n. IsData n class rest octets) type_is (subst (λ n. IsData to_type n rest octets) class_is data_is) in
-    inr (record { head = head; octets = octets; record_is = record_is words head t rest begins octets same_owner same_ttl its_data; long = big; told = (refl, first) })
+    let its_data : IsData rtype class l rest octets = subst (λ n. IsData n class l rest octets) type_is (subst (λ n. IsData to_type n l rest octets) class_is data_is) in
+    inr (record { head = head; octets = octets; record_is = record_is l words head t rest begins octets same_owner same_ttl its_data; long = big; told = (refl, first) })
 
 -- ---- pushes
 
@@ -168,14 +178,14 @@ pub question_stopped : {E : Type 0} (comp : Bool) (words : List WordAt) (q : Que
 question_stopped comp words q s capacity column e stop is why first h =
     if_refused (λ f c. TellsPush e f × (c ≡ column)) (NoPushedQuestion comp words s) stop (λ f c told. question_stopped_by q is (why_question comp q s capacity e f why told.0) (told.1 ∙ first)) h
 
-long_record : (comp : Bool) (section : Section) (words : List WordAt) (s : State) (f : Fault) (c : ℕ) → NoRecordWords words f c ⊎ LongRecord words f c → NoPushedRecord comp section words s f c
-long_record comp section words s f c (inl lack) = no_record lack
-long_record comp section words s f c (inr big) = record_stopped_by big.head big.octets big.record_is (long big.long big.told.0) big.told.1
+long_record : (comp : Bool) (section : Section) (l : List ℕ) (words : List WordAt) (s : State) (f : Fault) (c : ℕ) → NoFittingRecord l words f c → NoPushedRecord comp section l words s f c
+long_record comp section l words s f c (inl lack) = no_record lack
+long_record comp section l words s f c (inr big) = record_stopped_by big.head big.octets big.record_is (long big.long big.told.0) big.told.1
 
-pub record_refused : (comp : Bool) (section : Section) (words : List WordAt) (s : State) (e : Stop) → IfFault e (λ f c. NoRecordWords words f c ⊎ LongRecord words f c) → IfFault e (NoPushedRecord comp section words s)
-record_refused comp section words s e h = if_refused (λ f c. NoRecordWords words f c ⊎ LongRecord words f c) (NoPushedRecord comp section words s) e (λ f c lack. long_record comp section words s f c lack) h
+pub record_refused : (comp : Bool) (section : Section) (l : List ℕ) (words : List WordAt) (s : State) (e : Stop) → IfFault e (NoFittingRecord l words) → IfFault e (NoPushedRecord comp section l words s)
+record_refused comp section l words s e h = if_refused (NoFittingRecord l words) (NoPushedRecord comp section l words s) e (λ f c lack. long_record comp section l words s f c lack) h
 
-pub record_stopped : {E : Type 0} (comp : Bool) (section : Section) (words : List WordAt) (head : RecordHead) (octets : List ℕ) (s : State) (capacity column : ℕ) (e : PushError E) (stop : Stop) → IsRecordWords words head octets
-    → RecordRefused comp section head (λ _ t. t ≡ octets) s capacity e → column ≡ first_column words → IfFault stop (λ f c. TellsPush e f × (c ≡ column)) → IfFault stop (NoPushedRecord comp section words s)
-record_stopped comp section words head octets s capacity column e stop is why first h =
-    if_refused (λ f c. TellsPush e f × (c ≡ column)) (NoPushedRecord comp section words s) stop (λ f c told. record_stopped_by head octets is (why_record comp section head octets s capacity e f why told.0) (told.1 ∙ first)) h
+pub record_stopped : {E : Type 0} (comp : Bool) (section : Section) (l : List ℕ) (words : List WordAt) (head : RecordHead) (octets : List ℕ) (s : State) (capacity column : ℕ) (e : PushError E) (stop : Stop) → IsRecordWords l words head octets
+    → RecordRefused comp section head (λ _ t. t ≡ octets) s capacity e → column ≡ first_column words → IfFault stop (λ f c. TellsPush e f × (c ≡ column)) → IfFault stop (NoPushedRecord comp section l words s)
+record_stopped comp section l words head octets s capacity column e stop is why first h =
+    if_refused (λ f c. TellsPush e f × (c ≡ column)) (NoPushedRecord comp section l words s) stop (λ f c told. record_stopped_by head octets is (why_record comp section head octets s capacity e f why told.0) (told.1 ∙ first)) h

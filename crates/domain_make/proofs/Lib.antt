@@ -1,6 +1,12 @@
+pub mod Stepping
+pub mod Telling
+pub mod Scanning
+pub mod Naming
 pub mod Texts
 pub mod Once
+pub mod Saying
 pub mod Entering
 pub mod Marking
 pub mod Refusing
 pub mod Drafting
+pub mod Failing

@@ -5,21 +5,21 @@ use Rattle.std.proofs.lemmas.Bool.{false≢true, cases_order}
 use Rattle.std.proofs.lemmas.List.{append-nil, append_cancel_left}
 use Rattle.domain_header.specs.Tables.{opcode_text, rcode_text}
 use Rattle.domain_header.specs.declared.flags.Header.{Header}
-use Rattle.domain_data_text.specs.Faults.{IfFault, Tells, TellsMissing}
-use Rattle.domain_data_text.specs.Parts.{IsNumber16}
+use Rattle.domain_make.specs.Stops.{IfFault, Tells, TellsMissing}
+use Rattle.domain_make.specs.Parts.{IsNumber16}
 use Rattle.domain_make.specs.Refusals.{IsOther, NoRemark}
 use Rattle.domain_make.specs.Refusals.NoRemark.{late_codes, no_codes, late_flags, no_flags, no_heading, of_opt}
 use Rattle.domain_make.specs.Remarks.{IsTrimmed, IsCodesLine, AreCodes, IsFlagsLine, flag_words, words_before, BeginsWithFlags, IsWithColon, IsHeading, EndsInSection, BeginsAsOpt, Remarks}
 use Rattle.domain_make.specs.Remarks.IsHeading.{questions, answers, authority, additional}
 use Rattle.domain_make.specs.Remarks.Remarks.{codes_told, flags_told, heading, comment}
-use Rattle.domain_data_text.specs.Words.{IsBlank}
-use Rattle.domain_data_text.specs.declared.error.Fault.{Fault}
-use Rattle.domain_data_text.specs.declared.error.Fault.TheVariants as fault
-use Rattle.domain_data_text.specs.declared.error.Stop.{Stop}
+use Rattle.domain_make.specs.Words.{IsBlank}
+use Rattle.domain_make.specs.declared.error.Fault.{Fault}
+use Rattle.domain_make.specs.declared.error.Fault.TheVariants as fault
+use Rattle.domain_make.specs.declared.error.Stop.{Stop}
 use Rattle.domain_make.specs.declared.remark.Flags.{Flags}
 use Rattle.domain_make.specs.declared.remark.Stage.{Stage}
 use Rattle.domain_make.specs.declared.remark.Stage.TheVariants.{Start, Codes}
-use Rattle.domain_data_text.proofs.Telling.{if_refused}
+use Rattle.domain_make.proofs.Telling.{if_refused}
 use Rattle.domain_make.proofs.Texts.{differ, apart, Without, parted_once, not_without, opcode_lacks, rcode_lacks}
 
 -- ---- codes

@@ -12,7 +12,7 @@ use Rattle.domain_make.specs.Drafts.{Draft, IsAsked, IsRemark, LineSays, IsLine,
 use Rattle.domain_make.specs.Drafts.LineSays.{asked as says_asked, empty as says_empty, entry as says_entry, question as says_question, remark as says_remark}
 use Rattle.domain_make.specs.Drafts.LinesSay.{none, line}
 use Rattle.domain_make.specs.Entries.{IsQuestionWords, IsRecordWords}
-use Rattle.domain_data_text.specs.Faults.{NoWords}
+use Rattle.domain_make.specs.Stops.{NoWords}
 use Rattle.domain_make.specs.Faults.{NoQuestionWords, NoRecordWords}
 use Rattle.domain_make.specs.Refusals.{NoRemark, IsOutside, IsFaulty, QuestionStops, RecordStops, QuestionNotPushed, RecordNotPushed, NoPushedQuestion, NoPushedRecord, IsRefused, RefusesLine, StopsAtLine, EntriesHaveRoom}
 use Rattle.domain_make.specs.Refusals.IsFaulty.{asked as faulty_asked, asked_words as faulty_asked_words, entry as faulty_entry, no_words as faulty_no_words, outside as faulty_outside, question as faulty_question, remark as faulty_remark}
@@ -22,16 +22,15 @@ use Rattle.domain_make.specs.Refusals.NoPushedRecord.{no_record as lack_record_n
 use Rattle.domain_make.specs.Refusals.EntryNotPushed.{asked as room_asked, entry as room_entry, question as room_question}
 use Rattle.domain_make.specs.Refusals.IsRefused.{says_nothing, no_room}
 use Rattle.domain_make.specs.Remarks.{IsTrimmed, Remarks}
-use Rattle.domain_data_text.specs.Words.{WordAt, word_at, words_at, AreWords}
-use Rattle.domain_data_text.specs.declared.error.Fault.{Fault}
-use Rattle.domain_data_text.specs.declared.error.Fault.TheVariants as fault
+use Rattle.domain_make.specs.Words.{WordAt, word_at, words_at, AreWords}
+use Rattle.domain_make.specs.declared.error.Fault.{Fault}
+use Rattle.domain_make.specs.declared.error.Fault.TheVariants as fault
 use Rattle.domain_make.specs.declared.error.LineError.{LineError}
 use Rattle.domain_make.specs.declared.remark.Stage.{Stage}
 use Rattle.domain_make.specs.declared.remark.Stage.TheVariants.{Start, Codes, Told, Questions, Records}
-use Rattle.domain_data_text.specs.declared.words.Word.{Word}
+use Rattle.domain_make.specs.declared.words.Word.{Word}
 use Rattle.domain_make.proofs.Marking.{trimmed_once, no_remark, remark_once}
-use Rattle.domain_make.proofs.Once.{no_question, no_record}
-use Rattle.domain_data_text.proofs.Scanning.{words_once, no_words}
+use Rattle.domain_make.proofs.Once.{no_question, no_record, words_once, no_words}
 
 two_stages : (s : Stage) (section : Section) → s ≡ Questions → s ≡ Records section → ⊥
 two_stages s section e f = cc
@@ -42,8 +41,8 @@ empty_other l words are some none_are = absurd (omega (arith, some, ap length (w
 same_question : (l : List ℕ) (start : ℕ) (words also : List WordAt) (f : Fault) (c : ℕ) (q : QuestionFields) → AreWords l start words → AreWords l start also → NoQuestionWords words f c → IsQuestionWords also q → ⊥
 same_question l start words also f c q are they lack is = no_question words f c q lack (subst (λ ws. IsQuestionWords ws q) (words_once l start also words they are) is)
 
-same_record : (l : List ℕ) (words also : List WordAt) (f : Fault) (c : ℕ) (head : RecordHead) (octets : List ℕ) → AreWords l 0 words → AreWords l 0 also → NoRecordWords words f c → IsRecordWords also head octets → ⊥
-same_record l words also f c head octets are they lack is = no_record words f c head octets lack (subst (λ ws. IsRecordWords ws head octets) (words_once l 0 also words they are) is)
+same_record : (l : List ℕ) (words also : List WordAt) (f : Fault) (c : ℕ) (head : RecordHead) (octets : List ℕ) → AreWords l 0 words → AreWords l 0 also → NoRecordWords l words f c → IsRecordWords l also head octets → ⊥
+same_record l words also f c head octets are they lack is = no_record l words f c head octets lack (subst (λ ws. IsRecordWords l ws head octets) (words_once l 0 also words they are) is)
 
 -- A line of which a fault is reported says nothing.
 pub faulty_is : (l : List ℕ) (old new : Draft) (f : Fault) (c : ℕ) → IsFaulty l old f c → LineSays l old new → ⊥
@@ -141,7 +140,7 @@ refuses_question comp l words s f c plain are some (lack_question_no_question la
 refuses_question comp l words s f c plain are some (lack_question_stopped q says stops at_first) =
     λ d is. no_room (room_question words q is.stage_is plain are says (question_stops comp Questions s d q f is stops) at_first)
 
-pub refuses_record : (comp : Bool) (l : List ℕ) (section : Section) (words : List WordAt) (s : State) (f : Fault) (c : ℕ) → slice_index l 0 ≢ 59 → AreWords l 0 words → 0 < length words → NoPushedRecord comp section words s f c
+pub refuses_record : (comp : Bool) (l : List ℕ) (section : Section) (words : List WordAt) (s : State) (f : Fault) (c : ℕ) → slice_index l 0 ≢ 59 → AreWords l 0 words → 0 < length words → NoPushedRecord comp section l words s f c
     → RefusesLine comp l (Records section) s f c
 refuses_record comp l section words s f c plain are some (lack_record_no_record lack) = λ d is. refused comp l d f c (faulty_entry section words is.stage_is plain are some lack)
 refuses_record comp l section words s f c plain are some (lack_record_stopped head octets says stops at_first) =

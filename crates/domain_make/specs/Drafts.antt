@@ -9,7 +9,7 @@ use Rattle.domain_message_builder.specs.State.{State}
 use Rattle.domain_message.specs.declared.section.Section.{Section}
 use Rattle.domain_make.specs.Entries.{IsQuestionWords, IsRecordWords}
 use Rattle.domain_make.specs.Remarks.{IsTrimmed, Remarks}
-use Rattle.domain_data_text.specs.Words.{WordAt, AreWords}
+use Rattle.domain_make.specs.Words.{WordAt, AreWords}
 use Rattle.domain_make.specs.declared.remark.Stage.{Stage}
 use Rattle.domain_make.specs.declared.remark.Stage.TheVariants.{Start, Questions, Records}
 
@@ -48,7 +48,7 @@ pub data LineSays (line : List ℕ) (old new : Draft) : Type 0 where
       → new ≡ record old { content = question_added old.content q } → LineSays line old new
   question : (words : List WordAt) (q : QuestionFields) → old.stage ≡ Questions → slice_index line 0 ≢ 59 → AreWords line 0 words → IsQuestionWords words q
       → new ≡ record old { content = question_added old.content q } → LineSays line old new
-  entry : (section : Section) (words : List WordAt) (head : RecordHead) (octets : List ℕ) → old.stage ≡ Records section → slice_index line 0 ≢ 59 → AreWords line 0 words → IsRecordWords words head octets
+  entry : (section : Section) (words : List WordAt) (head : RecordHead) (octets : List ℕ) → old.stage ≡ Records section → slice_index line 0 ≢ 59 → AreWords line 0 words → IsRecordWords line words head octets
       → new ≡ record old { content = record_added section old.content (record { head = head; rdata = octets }) } → LineSays line old new
 
 -- The line that begins at start ends before end: at a line feed, or with the text.

@@ -1,3 +1,8 @@
+pub mod Steps
+pub mod Words
+pub mod Parts
+pub mod Data
+pub mod Stops
 pub mod Entries
 pub mod Faults
 pub mod Remarks

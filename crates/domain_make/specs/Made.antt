@@ -47,3 +47,10 @@ IfLine (Line e) P = P e
 IfLine Read P = ⊤
 IfLine Write P = ⊤
 IfLine Memory P = ⊤
+
+-- The error is of a line, or memory lacked: nothing was read or written.
+abbrev pub IsOfText : MakeError → Type 0
+IsOfText (Line e) = ⊤
+IsOfText Read = ⊥
+IsOfText Write = ⊥
+IsOfText Memory = ⊤

@@ -12,12 +12,12 @@ use Rattle.domain_header.specs.Headers.{question_count}
 use Rattle.domain_rdata.specs.ReadBack.{Exceeds}
 use Rattle.domain_make.specs.Drafts.{Draft, IsBlankDraft, IsAsked, IsRemark, LineSays, IsLine, LinesSay, TextSays, IsDraft}
 use Rattle.domain_make.specs.Entries.{first_column, IsQuestionWords, IsRecordWords}
-use Rattle.domain_data_text.specs.Faults.{Tells, NoWords}
+use Rattle.domain_make.specs.Stops.{Tells, NoWords}
 use Rattle.domain_make.specs.Faults.{NoQuestionWords, NoRecordWords}
 use Rattle.domain_make.specs.Remarks.{IsTrimmed, IsCodesLine, AreCodes, IsFlagsLine, BeginsWithFlags, IsHeading, EndsInSection, BeginsAsOpt}
-use Rattle.domain_data_text.specs.Words.{WordAt, AreWords}
-use Rattle.domain_data_text.specs.declared.error.Fault.{Fault}
-use Rattle.domain_data_text.specs.declared.error.Fault.TheVariants as fault
+use Rattle.domain_make.specs.Words.{WordAt, AreWords}
+use Rattle.domain_make.specs.declared.error.Fault.{Fault}
+use Rattle.domain_make.specs.declared.error.Fault.TheVariants as fault
 use Rattle.domain_make.specs.declared.error.LineError.{LineError}
 use Rattle.domain_make.specs.declared.remark.Flags.{Flags}
 use Rattle.domain_make.specs.declared.remark.Stage.{Stage}
@@ -54,7 +54,7 @@ pub data IsFaulty (line : List ℕ) (old : Draft) (f : Fault) (c : ℕ) : Type 0
   no_words : slice_index line 0 ≢ 59 → NoWords line 0 f c → IsFaulty line old f c
   outside : (w : WordAt) (ws : List WordAt) → IsOutside old.stage → slice_index line 0 ≢ 59 → AreWords line 0 (w ∷ ws) → Tells fault.Outside w.column f c → IsFaulty line old f c
   question : (words : List WordAt) → old.stage ≡ Questions → slice_index line 0 ≢ 59 → AreWords line 0 words → 0 < length words → NoQuestionWords words f c → IsFaulty line old f c
-  entry : (section : Section) (words : List WordAt) → old.stage ≡ Records section → slice_index line 0 ≢ 59 → AreWords line 0 words → 0 < length words → NoRecordWords words f c → IsFaulty line old f c
+  entry : (section : Section) (words : List WordAt) → old.stage ≡ Records section → slice_index line 0 ≢ 59 → AreWords line 0 words → 0 < length words → NoRecordWords line words f c → IsFaulty line old f c
 
 -- how many records there are
 abbrev pub records_in : Content → ℕ
@@ -118,9 +118,9 @@ pub data NoPushedQuestion (compresses : Bool) (words : List WordAt) (s : State) 
   stopped : (q : QuestionFields) → IsQuestionWords words q → QuestionStops compresses q s f → c ≡ first_column words → NoPushedQuestion compresses words s f c
 
 -- The words are no record, or one that a builder doesn't take.
-pub data NoPushedRecord (compresses : Bool) (section : Section) (words : List WordAt) (s : State) (f : Fault) (c : ℕ) : Type 0 where
-  no_record : NoRecordWords words f c → NoPushedRecord compresses section words s f c
-  stopped : (head : RecordHead) (octets : List ℕ) → IsRecordWords words head octets → RecordStops compresses section head octets s f → c ≡ first_column words → NoPushedRecord compresses section words s f c
+pub data NoPushedRecord (compresses : Bool) (section : Section) (line : List ℕ) (words : List WordAt) (s : State) (f : Fault) (c : ℕ) : Type 0 where
+  no_record : NoRecordWords line words f c → NoPushedRecord compresses section line words s f c
+  stopped : (head : RecordHead) (octets : List ℕ) → IsRecordWords line words head octets → RecordStops compresses section head octets s f → c ≡ first_column words → NoPushedRecord compresses section line words s f c
 
 -- What the line says is an entry, which isn't pushed.
 pub data EntryNotPushed (compresses : Bool) (line : List ℕ) (old : Draft) (f : Fault) (c : ℕ) : Type 0 where
@@ -129,7 +129,7 @@ pub data EntryNotPushed (compresses : Bool) (line : List ℕ) (old : Draft) (f :
   question : (words : List WordAt) (q : QuestionFields) → old.stage ≡ Questions → slice_index line 0 ≢ 59 → AreWords line 0 words → IsQuestionWords words q
       → QuestionNotPushed compresses q old.content f → c ≡ first_column words → EntryNotPushed compresses line old f c
   entry : (section : Section) (words : List WordAt) (head : RecordHead) (octets : List ℕ) → old.stage ≡ Records section → slice_index line 0 ≢ 59 → AreWords line 0 words
-      → IsRecordWords words head octets → RecordNotPushed compresses section head octets old.content f → c ≡ first_column words → EntryNotPushed compresses line old f c
+      → IsRecordWords line words head octets → RecordNotPushed compresses section head octets old.content f → c ≡ first_column words → EntryNotPushed compresses line old f c
 
 -- The line isn't taken after what was said: it says nothing of a message, with this fault in this column; or an entry,
 -- which isn't pushed.

@@ -7,11 +7,11 @@ use Rattle.domain_header.specs.Tables.{opcode_text, rcode_text}
 use Rattle.domain_header.specs.Values.{opcode_number, rcode_number}
 use Rattle.domain_header.specs.declared.flags.Header.{Header}
 use Rattle.domain_message.specs.declared.section.Section.TheVariants.{Answer, Authority, Additional}
-use Rattle.domain_data_text.specs.Faults.{Tells, TellsMissing}
-use Rattle.domain_data_text.specs.Parts.{IsNumber16}
-use Rattle.domain_data_text.specs.Words.{IsBlank}
-use Rattle.domain_data_text.specs.declared.error.Fault.{Fault}
-use Rattle.domain_data_text.specs.declared.error.Fault.TheVariants as fault
+use Rattle.domain_make.specs.Stops.{Tells, TellsMissing}
+use Rattle.domain_make.specs.Parts.{IsNumber16}
+use Rattle.domain_make.specs.Words.{IsBlank}
+use Rattle.domain_make.specs.declared.error.Fault.{Fault}
+use Rattle.domain_make.specs.declared.error.Fault.TheVariants as fault
 use Rattle.domain_make.specs.declared.remark.CodesTold.{CodesTold}
 use Rattle.domain_make.specs.declared.remark.Flags.{Flags}
 use Rattle.domain_make.specs.declared.remark.Stage.{Stage}

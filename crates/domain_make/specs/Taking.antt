@@ -14,9 +14,9 @@ use Rattle.domain_message_builder.specs.Builders.{state}
 use Rattle.domain_message_builder.specs.Contents.{RecordHead}
 use Rattle.domain_message_builder.specs.Pushes.{headed, PushesQuestion, PushesRecord}
 use Rattle.domain_message_builder.specs.declared.builder.MessageBuilder.{MessageBuilder}
-use Rattle.domain_data_text.specs.Faults.{IfFault}
-use Rattle.domain_data_text.specs.Words.{WordAt}
-use Rattle.domain_data_text.specs.declared.error.Stop.{Stop}
+use Rattle.domain_make.specs.Stops.{IfFault}
+use Rattle.domain_make.specs.Words.{WordAt}
+use Rattle.domain_make.specs.declared.error.Stop.{Stop}
 use Rattle.domain_make.specs.Drafts.{DraftsLine, DraftsLines}
 use Rattle.domain_make.specs.Entries.{IsQuestionWords, IsRecordWords}
 use Rattle.domain_make.specs.Made.{IfLine}
@@ -26,8 +26,8 @@ use Rattle.domain_make.specs.declared.remark.Stage.{Stage}
 
 -- The words are this record: its owner, its TTL, its class, its type and its data.
 abbrev pub AreWordsOf : {A B : Type 0} {a : Ghosts A} {b : Ghosts B}
-    → List WordAt → Record (Name A a) (UnknownRecordData B b) → Type 0
-AreWordsOf words it = IsRecordWords words (headed name_labels data_type it) (data_octets (data_of it))
+    → List ℕ → List WordAt → Record (Name A a) (UnknownRecordData B b) → Type 0
+AreWordsOf line words it = IsRecordWords line words (headed name_labels data_type it) (data_octets (data_of it))
 
 -- The question that the words are was pushed.
 abbrev pub AddsQuestionOf : {T E : Type 0} {g : _} {h : _} {i : _} {j : _} {k : _} {l : _}
@@ -42,14 +42,14 @@ NoQuestionAdded {g = g} words b e = IfFault e (NoPushedQuestion g.compresses wor
 
 -- The record that the words are was pushed into the section.
 abbrev pub AddsRecordOf : {T E : Type 0} {g : _} {h : _} {i : _} {j : _} {k : _} {l : _}
-    → Section → List WordAt → MessageBuilder T E g h i j k l → MessageBuilder T E g h i j k l → Type 0
-AddsRecordOf {g = g} section words old new =
-    (head : RecordHead) × (octets : List ℕ) × IsRecordWords words head octets × PushesRecord g.compresses section head (λ _ s. s ≡ octets) (state old) (state new)
+    → Section → List ℕ → List WordAt → MessageBuilder T E g h i j k l → MessageBuilder T E g h i j k l → Type 0
+AddsRecordOf {g = g} section line words old new =
+    (head : RecordHead) × (octets : List ℕ) × IsRecordWords line words head octets × PushesRecord g.compresses section head (λ _ s. s ≡ octets) (state old) (state new)
 
 -- Why no record that the words are was pushed, if it isn't memory that lacks.
 abbrev pub NoRecordAdded : {T E : Type 0} {g : _} {h : _} {i : _} {j : _} {k : _} {l : _}
-    → Section → List WordAt → MessageBuilder T E g h i j k l → Stop → Type 0
-NoRecordAdded {g = g} section words b e = IfFault e (NoPushedRecord g.compresses section words (state b))
+    → Section → List ℕ → List WordAt → MessageBuilder T E g h i j k l → Stop → Type 0
+NoRecordAdded {g = g} section line words b e = IfFault e (NoPushedRecord g.compresses section line words (state b))
 
 -- The line says something that the builder holds then after what was said before, if it held that.
 abbrev pub TakesLine : {T E : Type 0} {g : _} {h : _} {i : _} {j : _} {k : _} {l : _}

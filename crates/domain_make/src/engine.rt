@@ -1,24 +1,23 @@
 //! The engine of `dnswalk make`, over any reader and writer.
-ghost use Rattle.std.specs.Prelude.{◌≡◌, ◌≤◌, ◌↔◌, Bool, true, Some, IfOk, IfErr, IfSome, IsNone, OnOk};
+ghost use Rattle.std.specs.Prelude.{◌≡◌, ◌≤◌, ◌↔◌, Bool, true, Some, IfOk, IfErr, IfSome, IsNone, OnOk, OnErr};
 ghost use Rattle.std.specs.Io.KnownBytes.{IsAtEnd};
 ghost use Rattle.domain_tool.specs.WireText.{octet_digits, hexadecimal};
 ghost use Rattle.domain_tool.specs.WordParts.{texts};
-ghost use Rattle.domain_make.specs.Made.{IsMade, WritesOctets, MakesOf, AsksToMake, MakesAsked, IfLine};
+ghost use Rattle.domain_make.specs.Made.{IsMade, WritesOctets, MakesOf, AsksToMake, MakesAsked, IfLine, IsOfText};
 ghost use Rattle.domain_make.specs.Reasons.{usage_text};
 ghost use Rattle.domain_make.specs.Refusals.{StopsAtLine, NotMade, StopsSomewhere, StopsAtGiven, GivenNotMade};
-ghost use Rattle.domain_make.specs.Telling.{TellsReason, TellsText, TellsLine, TellsFailure};
+ghost use Rattle.domain_make.specs.Telling.{HasFailed, TellsReason, TellsText, TellsLine, TellsFailure};
 
 use crate::error::MakeError;
 use crate::line::take_lines;
 use domain_compress::CompressComposer;
 use domain_label::hex::hex_character;
-use domain_lines::streams::Sink;
+use domain_lines::streams::{Sink, Source};
 use domain_message_builder::MessageBuilder;
 use domain_rdata::Composer;
-use domain_tool::tool::{ToolError, WriteFault, read_all};
+use domain_tool::tool::{ToolError, WriteFault};
 use std::alloc::Global;
 use std::fmt;
-use std::io::Read;
 
 /// Appends to an empty target the message that the lines of a text say.
 ///
@@ -32,6 +31,7 @@ pub fn make_message<Target: Composer + Drop>(
     ensures message { IfOk result (λ made. IsMade text.now (Target.octets made)) }
     ensures refused { IfErr result (λ e. IfLine e (StopsAtLine Target.compresses text.now)) }
     ensures accepted { IfErr result (λ e. IfLine e (λ _. NotMade Target.compresses text.now)) }
+    ensures of_text { IfErr result (λ e. IsOfText e) }
 {
     let mut message = match MessageBuilder::from_target(target) {
         Ok(message) => message,
@@ -48,6 +48,7 @@ fn shorter_message(alloc: Global, text: &[u8]) -> Result<Vec<u8>, MakeError>
     ensures message { IfOk result (λ made. IsMade text.now made.items) }
     ensures refused { IfErr result (λ e. IfLine e (StopsAtLine true text.now)) }
     ensures accepted { IfErr result (λ e. IfLine e (λ _. NotMade true text.now)) }
+    ensures of_text { IfErr result (λ e. IsOfText e) }
 {
     let composer = CompressComposer::new(Vec::new(alloc));
     match make_message(alloc, text, composer) {
@@ -89,7 +90,9 @@ impl fmt::Display for Digits {
 
 /// Writes octets as they are, or in hexadecimal digits and with a newline.
 fn write_octets<W: Sink>(octets: &[u8], hex: bool, output: &mut W) -> Result<(), WriteFault>
-    ensures { OnOk result (WritesOctets W.contents octets.now hex output.old output.new) }
+    ensures written { OnOk result
+        (WritesOctets W.contents octets.now hex output.old output.new) }
+    ensures failed { OnErr result (W.failed output.new) }
 {
     if hex {
         return output.put_line(Hexadecimal { octets });
@@ -101,17 +104,21 @@ fn write_octets<W: Sink>(octets: &[u8], hex: bool, output: &mut W) -> Result<(),
 fn send_octets<W: Sink>(octets: &[u8], hex: bool, output: &mut W) -> Result<(), WriteFault>
     ensures written { OnOk result (WritesOctets W.contents octets.now hex output.old output.new) }
     ensures sent { OnOk result (W.sent output.new) }
+    ensures failed { OnErr result (W.failed output.new) }
 {
-    write_octets(octets, hex, output)?;
-    output.send()
+    match write_octets(octets, hex, output) {
+        Ok(()) => output.send(),
+        Err(fault) => Err(fault),
+    }
 }
 
 /// Reads the input to its end, writes the message that its lines say, as it is or in hexadecimal digits and with a
 /// newline, and flushes the output.
 ///
-/// `Line` has the first line that isn't taken, and why, as of `make_message`; nothing is written then. `Read`, `Write`
-/// or `Memory` where one of these failed.
-pub fn make<R: Read, W: Sink>(
+/// `Line` has the first line that isn't taken, and why, as of `make_message`; nothing is written then. `Read` and
+/// `Write` only where the stream failed. `Memory` where there was none for the input, or for the message after all of
+/// the input was read; nothing is written then.
+pub fn make<R: Source, W: Sink>(
     alloc: Global,
     input: &mut R,
     output: &mut W,
@@ -125,8 +132,10 @@ pub fn make<R: Read, W: Sink>(
     ensures accepted { IfErr result (λ e. IfLine e (λ _.
         GivenNotMade true (R.remaining input.old))) }
     ensures nothing_written { IfErr result (λ e. IfLine e (λ _. output.new ≡ output.old)) }
+    ensures failed { IfErr result (λ e.
+        HasFailed R.remaining R.failed input.new W.failed output.old output.new e) }
 {
-    let text = match read_all(alloc, input) {
+    let text = match input.read_whole(alloc) {
         Ok(text) => text,
         Err(ToolError::Memory) => return Err(MakeError::Memory),
         Err(_) => return Err(MakeError::Read),
@@ -164,12 +173,12 @@ fn tell<D: fmt::Display + Drop, E: Sink>(reason: D, errors: &mut E)
 
 /// Carries out the words that follow the program's name, where the first of them is `make`. The answer is the status
 /// to end with: 0 where the message was written, 1 where a line isn't taken, 2 for other words than `make`, and
-/// `--hex` or not; 3 where reading, writing or memory failed.
+/// `--hex` or not; 3 where reading, writing or memory failed, and for nothing else.
 ///
 /// The reason is written to `errors`, and a newline: of status 1 the line, the column and the fault, of 2 the usage,
 /// of 3 `reading failed`, `writing failed` or `out of memory`. That this fails changes no status. Where all is done
 /// nothing is written there.
-pub fn run<R: Read, W: Sink, E: Sink>(
+pub fn run<R: Source, W: Sink, E: Sink>(
     alloc: Global,
     words: &[&str],
     input: &mut R,
@@ -189,7 +198,9 @@ pub fn run<R: Read, W: Sink, E: Sink>(
     ensures line_told { result ≡ 1 →
         TellsLine (R.remaining input.old) E.Sink errors.old errors.new }
     ensures usage_told { result ≡ 2 → TellsReason E.Sink usage_text errors.old errors.new }
-    ensures failure_told { result ≡ 3 → TellsFailure E.Sink errors.old errors.new }
+    ensures failure_told { result ≡ 3 → TellsFailure
+        (HasFailed R.remaining R.failed input.new W.failed output.old output.new)
+        E.Sink errors.old errors.new }
 {
     let Some(hex) = asked(words) else {
         tell(USAGE, errors);

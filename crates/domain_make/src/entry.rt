@@ -4,17 +4,17 @@ ghost use Rattle.domain_header.specs.Values.{class_number};
 ghost use Rattle.domain_message_builder.specs.Pushes.{asked};
 ghost use Rattle.domain_name.specs.Names.{name_labels};
 ghost use Rattle.domain_rdata.specs.Rtypes.{rtype_number};
-ghost use Rattle.domain_make.specs.Entries.{IsClassWord, IsTypeWord, first_column, IsQuestionWords};
-ghost use Rattle.domain_data_text.specs.Faults.{IfFault};
-ghost use Rattle.domain_make.specs.Faults.{NoClass, NoType, NoQuestionWords, NoFittingRecord};
+ghost use Rattle.domain_make.specs.Entries.{IsClassWord, IsTypeWord, begins_with_digit, first_column, AreStated, IsQuestionWords};
+ghost use Rattle.domain_make.specs.Stops.{IfFault};
+ghost use Rattle.domain_make.specs.Faults.{NoClass, NoType, NoQuestionWords, NoStated, NoFittingRecord};
 ghost use Rattle.domain_make.specs.Refusals.{TellsPush};
 ghost use Rattle.domain_make.specs.Taking.{AreWordsOf, AddsQuestionOf, NoQuestionAdded, AddsRecordOf, NoRecordAdded};
-ghost use Rattle.domain_data_text.specs.Words.{word_at, words_at};
+ghost use Rattle.domain_make.specs.Words.{word_at, words_at};
 
-use domain_data_text::data::data_of;
-use domain_data_text::error::{Fault, Stop};
-use domain_data_text::parts::{OwnName, name_of, number32_of, text_of};
-use domain_data_text::words::Word;
+use crate::data::data_of;
+use crate::error::{Fault, Stop};
+use crate::parts::{OwnName, name_of, number32_of, text_of};
+use crate::words::Word;
 use domain_header::{Class, Ttl};
 use domain_message::{Question, Record, Section, rtype_from_text};
 use domain_message_builder::{MessageBuilder, PushError};
@@ -61,27 +61,71 @@ fn question_of(alloc: Global, words: &[Word<'_>]) -> Result<Question<OwnName>, S
     Ok(Question::new(qname, qtype, qclass))
 }
 
-/// The record that words are: an owner, a TTL, a class, a type and data.
+/// Whether a word begins with a digit, as each TTL does, and no class.
+fn begins_with_digit(word: &[u8]) -> bool
+    ensures { result ≡ begins_with_digit word.now }
+{
+    match word {
+        [] => false,
+        [first, ..] => *first >= b'0' && *first <= b'9',
+    }
+}
+
+/// A TTL and a class.
+#[derive(Clone, Copy)]
+struct Stated {
+    seconds: u32,
+    class: Class,
+}
+
+/// The TTL and the class that two words are, in either order.
+fn stated_by(first: &Word<'_>, second: &Word<'_>) -> Result<Stated, Stop>
+    ensures ok { IfOk result (λ it.
+        AreStated (word_at first.now) (word_at second.now) it.seconds (class_number it.class)) }
+    ensures err { IfErr result
+        (λ e. IfFault e (NoStated (word_at first.now) (word_at second.now))) }
+{
+    if begins_with_digit(first.octets) {
+        let seconds = match number32_of(first) {
+            Ok(seconds) => seconds,
+            Err(stop) => return Err(stop),
+        };
+        return match class_of(second) {
+            Ok(class) => Ok(Stated { seconds, class }),
+            Err(stop) => Err(stop),
+        };
+    }
+    let class = match class_of(first) {
+        Ok(class) => class,
+        Err(stop) => return Err(stop),
+    };
+    match number32_of(second) {
+        Ok(seconds) => Ok(Stated { seconds, class }),
+        Err(stop) => Err(stop),
+    }
+}
+
+/// The record that the words of a line are: an owner, a TTL and a class in either order, a type and data.
 fn record_of(
     alloc: Global,
+    line: &[u8],
     words: &[Word<'_>],
 ) -> Result<Record<OwnName, UnknownRecordData<Vec<u8>>>, Stop>
-    ensures ok { IfOk result (λ it. AreWordsOf (words_at words.now) it) }
-    ensures err { IfErr result (λ e. IfFault e (NoFittingRecord (words_at words.now))) }
+    ensures ok { IfOk result (λ it. AreWordsOf line.now (words_at words.now) it) }
+    ensures err { IfErr result (λ e. IfFault e (NoFittingRecord line.now (words_at words.now))) }
 {
-    let [owner, ttl, class, rtype, rest @ ..] = words else {
+    let [owner, first, second, rtype, rest @ ..] = words else {
         return Err(Stop::Refused(Fault::Record, first_column(words)));
     };
     let name = name_of(alloc, owner)?;
-    let seconds = number32_of(ttl)?;
-    let class = class_of(class)?;
-    let column = rtype.column;
+    let stated = stated_by(first, second)?;
     let rtype = rtype_of(rtype)?;
-    let data = data_of(alloc, rtype.to_int(), class.to_int(), column, rest)?;
+    let data = data_of(alloc, rtype.to_int(), stated.class.to_int(), line, rest)?;
     let Ok(rdata) = UnknownRecordData::from_octets(rtype, data) else {
         return Err(Stop::Refused(Fault::Octets, first_column(words)));
     };
-    Ok(Record::new(name, class, Ttl::from_secs(seconds), rdata))
+    let ttl = Ttl::from_secs(stated.seconds);
+    Ok(Record::new(name, stated.class, ttl, rdata))
 }
 
 /// Where the first word begins.
@@ -123,17 +167,19 @@ pub(crate) fn push_question<Target: Composer>(
     Err(refused(e, first_column(words)))
 }
 
-/// Pushes the record that words are into a section.
+/// Pushes the record that the words of a line are into a section.
 pub(crate) fn push_record<Target: Composer>(
     alloc: Global,
     section: Section,
+    line: &[u8],
     words: &[Word<'_>],
     message: &mut MessageBuilder<Target>,
 ) -> Result<(), Stop>
-    ensures ok { OnOk result (AddsRecordOf section (words_at words.now) message.old message.new) }
-    ensures err { IfErr result (NoRecordAdded section (words_at words.now) message.old) }
+    ensures ok { OnOk result (AddsRecordOf section line.now (words_at words.now)
+        message.old message.new) }
+    ensures err { IfErr result (NoRecordAdded section line.now (words_at words.now) message.old) }
 {
-    let resource = record_of(alloc, words)?;
+    let resource = record_of(alloc, line, words)?;
     let Err(e) = message.push(section, &resource) else {
         return Ok(());
     };

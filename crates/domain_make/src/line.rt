@@ -1,18 +1,17 @@
 //! One line after the other.
 ghost use Rattle.std.specs.Prelude.{◌≡◌, ◌≢◌, ◌<◌, ◌≤◌, ◌↔◌, length, slice_index, IsTrue, OnOk, IfOk, IfErr};
 ghost use Rattle.domain_make.specs.Drafts.{IsAsked, IsRemark, IsLine};
-ghost use Rattle.domain_make.specs.Made.{IfLine};
+ghost use Rattle.domain_make.specs.Made.{IfLine, IsOfText};
 ghost use Rattle.domain_make.specs.Refusals.{IsOutside};
 ghost use Rattle.domain_make.specs.Taking.{TakesLine, TakesEntryLine, LineNotTaken, TakesLines, LinesNotTaken};
-ghost use Rattle.domain_data_text.specs.Words.{AreWords, words_at};
-ghost use Rattle.domain_data_text.specs.declared.error.Stop.{Stop};
+ghost use Rattle.domain_make.specs.Words.{AreWords, words_at};
+ghost use Rattle.domain_make.specs.declared.error.Stop.{Stop};
 ghost use Rattle.domain_make.specs.declared.remark.Stage.{Stage};
 
 use crate::entry::{push_question, push_record};
-use crate::error::{LineError, MakeError};
+use crate::error::{Fault, LineError, MakeError, Stop};
 use crate::remark::{Stage, remark, trimmed};
-use domain_data_text::error::{Fault, Stop};
-use domain_data_text::words::{Word, words_of};
+use crate::words::{Word, found_words, words_of};
 use domain_message::Section;
 use domain_message_builder::MessageBuilder;
 use domain_rdata::Composer;
@@ -57,7 +56,8 @@ fn take_asked<Target: Composer>(
     ensures ok { OnOk result (TakesEntryLine line.now Stage.Questions message.old message.new) }
     ensures err { IfErr result (LineNotTaken line.now Stage.Questions message.old) }
 {
-    let words = words_of(alloc, line, 1)?;
+    let found = found_words(alloc, line, 1)?;
+    let words = words_of(alloc, line, 1, &found)?;
     push_question(alloc, words.as_slice(), message)
 }
 
@@ -92,7 +92,7 @@ fn take_record<Target: Composer>(
         message.old message.new) }
     ensures err { IfErr result (LineNotTaken line.now (Stage.Records section) message.old) }
 {
-    push_record(alloc, section, words, message)
+    push_record(alloc, section, line, words, message)
 }
 
 /// Whether no heading of a section was read.
@@ -116,7 +116,8 @@ fn take_entry<Target: Composer>(
     ensures ok { OnOk result (TakesEntryLine line.now stage message.old message.new) }
     ensures err { IfErr result (LineNotTaken line.now stage message.old) }
 {
-    let words = words_of(alloc, line, 0)?;
+    let found = found_words(alloc, line, 0)?;
+    let words = words_of(alloc, line, 0, &found)?;
     let words = words.as_slice();
     if words.len() == 0 {
         return Ok(());
@@ -189,7 +190,8 @@ fn line_end(text: &[u8], start: usize) -> usize
 
 /// Why a line wasn't taken, with its number.
 fn refused_line(stop: Stop, line: usize) -> MakeError
-    ensures { IfLine result (λ e. (e.line ≡ line) × (stop ≡ Stop.Refused e.fault e.column)) }
+    ensures line { IfLine result (λ e. (e.line ≡ line) × (stop ≡ Stop.Refused e.fault e.column)) }
+    ensures of_text { IsOfText result }
 {
     match stop {
         Stop::Refused(fault, column) => MakeError::Line(LineError {
@@ -209,6 +211,7 @@ pub(crate) fn take_lines<Target: Composer>(
 ) -> Result<(), MakeError>
     ensures all { OnOk result (TakesLines text.now message.old message.new) }
     ensures refused { IfErr result (LinesNotTaken text.now message.old) }
+    ensures of_text { IfErr result (λ e. IsOfText e) }
 {
     let mut stage = Stage::Start;
     let mut at = 0;

@@ -2,18 +2,18 @@
 ghost use Rattle.std.specs.Prelude.{◌≡◌, ◌⊎◌, ◌++◌, ◌∷◌, [], ◌<◌, ℕ, List, IfOk, IfErr, IfSome, IsNone, IsTrue, ◌↔◌, codes, cond, false};
 ghost use Rattle.domain_header.specs.Tables.{opcode_text, rcode_text};
 ghost use Rattle.domain_header.specs.Values.{opcode_number, rcode_number};
-ghost use Rattle.domain_data_text.specs.Faults.{IfFault};
-ghost use Rattle.domain_data_text.specs.Parts.{IsNumber16};
+ghost use Rattle.domain_make.specs.Stops.{IfFault};
+ghost use Rattle.domain_make.specs.Parts.{IsNumber16};
 ghost use Rattle.domain_make.specs.Refusals.{NoRemark};
 ghost use Rattle.domain_make.specs.Remarks.{IsTrimmed, IsAfter, BeginsWith, BeginsOtherwise, FindsRest, HasNoOctet, IsCodesLine, IsOpcodeText, IsRcodeText};
 ghost use Rattle.domain_make.specs.Remarks.{AreTold, LacksPart, LacksCodes, SetsTold, flag_words, words_before, BeginsWithFlags, SetsFlags};
 ghost use Rattle.domain_make.specs.Remarks.{IsWithColon, IsHeading, EndsInSection, BeginsAsOpt, IsRefusedRemark, Remarks};
-ghost use Rattle.domain_data_text.specs.declared.error.Fault.{Fault};
+ghost use Rattle.domain_make.specs.declared.error.Fault.{Fault};
 ghost use Rattle.domain_make.specs.declared.remark.Flags.{Flags};
 ghost use Rattle.domain_make.specs.declared.remark.Stage.{Stage};
 
-use domain_data_text::error::{Fault, Stop};
-use domain_data_text::words::is_blank;
+use crate::error::{Fault, Stop};
+use crate::words::is_blank;
 use domain_header::{Header, Opcode, Rcode};
 use domain_message::Section;
 use domain_tool::offset_of_word;

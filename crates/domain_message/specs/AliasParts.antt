@@ -3,7 +3,7 @@ use Rattle.std.specs.Prelude.{◌≡◌, ◌<◌, ◌≤◌, ◌+◌, ◌⊎◌,
 use Rattle.octseq.specs.declared.octets.Octets.{Ghosts}
 use Rattle.domain_parsed.specs.ParsedNames.{parsed_labels}
 use Rattle.domain_parsed.specs.declared.parsed.ParsedName.{ParsedName}
-use Rattle.domain_message.specs.Aliases.{IsAlias, FirstAlias, Leads, OfFirstQuestion, IsCanonical, IsCanonicalWithin, cname_count}
+use Rattle.domain_message.specs.Aliases.{IsAlias, FirstAlias, Leads, OfFirstQuestion, IsCanonicalWithin}
 use Rattle.domain_message.specs.Entries.{QuestionFields, QuestionAt, RecordFields, RecordAt}
 use Rattle.domain_message.specs.RecordModel.{record_fields}
 use Rattle.domain_message.specs.declared.record.ParsedRecord.{ParsedRecord}
@@ -23,10 +23,6 @@ GivenBy s rs =
 -- The target of the first CNAME record of the name among the remaining records.
 abbrev pub GivesAlias : RecordSection → List (List ℕ) → Option (List (List ℕ)) → Type 0
 GivesAlias s name found = (rs : List RecordFields) → GivenBy s rs → FirstAlias name rs found
-
--- So many CNAME records are left.
-abbrev pub GivesCnames : RecordSection → ℕ → Type 0
-GivesCnames s count = (rs : List RecordFields) → GivenBy s rs → cname_count rs ≡ count
 
 -- Fewer than n CNAME records lead from the name to one that none leads on from.
 abbrev pub EndsBefore : RecordSection → ℕ → List (List ℕ) → List (List ℕ) → Type 0
@@ -70,27 +66,12 @@ ChainEndsAt s n from end = EndsBefore s n (parsed_labels from) (parsed_labels en
 abbrev pub AskedIn : {O P : Type 0} {g : Ghosts O} {h : Ghosts P} → Message O g → RecordSection → ParsedName P h → Type 0
 AskedIn m answers name = Asked (message_octets m) answers (parsed_labels name)
 
--- The canonical name of the first question is this one.
-abbrev pub HasCanonicalName : {O P : Type 0} {g : Ghosts O} {h : Ghosts P} → Message O g → ParsedName P h → Type 0
-HasCanonicalName m name = IsCanonical (message_octets m) (Some (parsed_labels name))
-
--- A question that the header counts is missing, or it counts none, or a name leads back to itself.
-abbrev pub HasNoCanonicalName : {O : Type 0} {g : Ghosts O} → Message O g → Type 0
-HasNoCanonicalName m =
-    HasMissingQuestion m ⊎ (CountsNoQuestion m ⊎ IsCanonical (message_octets m) None)
-
 -- The canonical name of the first question is this one, and at most so many CNAME records lead to it.
-abbrev pub HasCanonicalNameWithin : {O P : Type 0} {g : Ghosts O} {h : Ghosts P} → Message O g → ℕ → ParsedName P h → Type 0
-HasCanonicalNameWithin m limit name =
+abbrev pub HasCanonicalName : {O P : Type 0} {g : Ghosts O} {h : Ghosts P} → Message O g → ℕ → ParsedName P h → Type 0
+HasCanonicalName m limit name =
     IsCanonicalWithin (message_octets m) limit (Some (parsed_labels name))
 
 -- A question that the header counts is missing, or it counts none, or more CNAME records than these lead on.
-abbrev pub HasNoCanonicalNameWithin : {O : Type 0} {g : Ghosts O} → Message O g → ℕ → Type 0
-HasNoCanonicalNameWithin m limit =
+abbrev pub HasNoCanonicalName : {O : Type 0} {g : Ghosts O} → Message O g → ℕ → Type 0
+HasNoCanonicalName m limit =
     HasMissingQuestion m ⊎ (CountsNoQuestion m ⊎ IsCanonicalWithin (message_octets m) limit None)
-
--- The number of passes over the answers is at most one more than the number of CNAME records among them. It is zero
--- where a question that the header counts is missing, or the header counts none.
-abbrev pub PassesFew : {O : Type 0} {g : Ghosts O} → Message O g → ℕ → ℕ → Type 0
-PassesFew m before now = ((HasMissingQuestion m ⊎ CountsNoQuestion m) × (now ≡ before))
-    ⊎ OfFirstQuestion (message_octets m) (λ answers _. now ≤ before + (cname_count answers + 1))

@@ -60,11 +60,8 @@ pub record OfFirstQuestion (m : List ℕ) (Says : List RecordFields → List (Li
   pub given : Given RecordAt m start (number16 m 6) answers
   pub says : Says answers asked.name
 
--- what the CNAME records of the answers lead to from the name of the first question. None: they go round
-abbrev pub IsCanonical : List ℕ → Option (List (List ℕ)) → Type 0
-IsCanonical m end = OfFirstQuestion m (λ answers name. ChainEnd answers name end)
-
--- the same over at most so many CNAME records. None: more of them lead on
+-- what at most so many CNAME records of the answers lead to from the name of the first question. None: more of them
+-- lead on
 abbrev pub IsCanonicalWithin : List ℕ → ℕ → Option (List (List ℕ)) → Type 0
 IsCanonicalWithin m limit end =
     OfFirstQuestion m (λ answers name. ChainEndWithin limit answers name end)

@@ -5,7 +5,7 @@ use Rattle.std.specs.Ordering.{on, eq_of_both}
 use Rattle.octseq.specs.Parsing.{message, position}
 use Rattle.octseq.specs.declared.parse.Parser.{Parser}
 use Rattle.domain_list.specs.Order.{same_name}
-use Rattle.domain_header.specs.Bits.{bit}
+use Rattle.domain_header.specs.Bits.{bit, bits}
 use Rattle.domain_header.specs.Numbers.{number16}
 use Rattle.domain_message.specs.Entries.{QuestionFields, QuestionAt}
 use Rattle.domain_message.specs.Sections.{Run}
@@ -50,10 +50,11 @@ abbrev pub ReadsOther : Parser → Parser → Type 0
 ReadsOther ours theirs =
     OtherNext (message ours) (position ours) (message theirs) (position theirs)
 
--- The message m answers the message o: it is a response with the same identifier, and the questions are the same
--- (RFC 1035, 4.1.1 and 7.3).
+-- The message m answers the message o: it is a response with the same identifier and opcode, and the questions are the
+-- same (RFC 1035, 4.1.1 and 7.3).
 pub record IsAnswerTo (m o : List ℕ) : Type 0 where
   pub response : bit 128 (slice_index m 2) ≡ 1
   pub id : number16 m 0 ≡ number16 o 0
+  pub opcode : bits 8 16 (slice_index m 2) ≡ bits 8 16 (slice_index o 2)
   pub count : number16 m 4 ≡ number16 o 4
   pub questions : SameQuestions m 12 o 12 (number16 m 4)

@@ -43,6 +43,10 @@ edns_version ttl = ttl / 65536 % 256
 abbrev pub dnssec_ok_bit : ℕ → ℕ
 dnssec_ok_bit ttl = bit 32768 ttl
 
+-- the bit CO, in the TTL (RFC 9824, 5.1)
+abbrev pub compact_ok_bit : ℕ → ℕ
+compact_ok_bit ttl = bit 16384 ttl
+
 -- whether a record is an OPT record
 abbrev pub is_opt : RecordFields → Bool
 is_opt it = nat_eq it.header.rtype 41

@@ -1,8 +1,8 @@
 //! The canonical name of a question: the end of a chain of CNAME records.
 ghost use Rattle.std.specs.Prelude.{◌≡◌, ◌<◌, ◌≤◌, ◌+◌, ◌⊎◌, IfSome, IsNone, None};
 ghost use Rattle.domain_parsed.specs.ParsedNames.{parsed_labels};
-ghost use Rattle.domain_message.specs.AliasParts.{LeadsTo, LeadsNowhere, GivesAlias, FirstLeadsTo, GivesCnames, ChainEndsAt, LeadsOn, AskedIn};
-ghost use Rattle.domain_message.specs.AliasParts.{HasCanonicalName, HasNoCanonicalName, HasCanonicalNameWithin, HasNoCanonicalNameWithin, PassesFew};
+ghost use Rattle.domain_message.specs.AliasParts.{LeadsTo, LeadsNowhere, GivesAlias, FirstLeadsTo, ChainEndsAt, LeadsOn, AskedIn};
+ghost use Rattle.domain_message.specs.AliasParts.{HasCanonicalName, HasNoCanonicalName};
 ghost use Rattle.domain_message.specs.MessageParts.{CountsNoQuestion, HasMissingQuestion};
 
 use crate::message::Message;
@@ -68,36 +68,6 @@ fn first_alias<'a, L: Ledger>(
     None
 }
 
-/// Returns the same, and how many CNAME records are left, of any name.
-fn first_alias_and_count<'a, L: Ledger>(
-    records: RecordSection<'a>,
-    name: &ParsedName<&'a [u8]>,
-    passes: &mut Passes<L>,
-) -> (Option<ParsedName<&'a [u8]>>, u16)
-    ensures some { IfSome result.0 (FirstLeadsTo records.entry name.now) }
-    ensures none { IsNone result.0 → GivesAlias records.entry (parsed_labels name.now) None }
-    ensures count { GivesCnames records.entry result.1 }
-    ensures one_pass { passes.new ≡ passes.old + 1 }
-{
-    passes.count();
-    let (mut parser, left) = records.left();
-    let mut first = None;
-    let mut count = 0;
-    for _record in 0..left {
-        let Ok(found) = ParsedRecord::parse(&mut parser) else {
-            return (first, count);
-        };
-        if found.rtype().to_int() == CNAME {
-            count += 1;
-            match first {
-                Some(_) => {}
-                None => first = alias_of(&found, name),
-            }
-        }
-    }
-    (first, count)
-}
-
 /// Follows CNAME records from a name to one that has none, with at most so many looks at the answers. `None` exactly
 /// if each look found one.
 fn end_of_chain<'a, L: Ledger>(
@@ -140,91 +110,47 @@ impl<Octs: Octets> Message<Octs> {
     }
 
     /// Returns the canonical name of the first question: the name to which CNAME records of the answer section lead
-    /// from the question's, and from which none leads on (RFC 1034, 3.6.2). `None` if one of these names leads back to
-    /// itself, there is no question, or one that the header counts is missing.
+    /// from the question's, and from which none leads on (RFC 1034, 3.6.2). At most `limit` records are followed;
+    /// resolvers follow 11 to 16.
     ///
-    /// The records may be in any order; of two of one name the first is followed. Case of ASCII letters is ignored,
-    /// and so are the classes, and the question's type: a query for CNAME or ANY isn't restarted at the target, but
-    /// its canonical name is still the end. A CNAME record whose data isn't one name is passed over. Where an answer
-    /// is missing, as in a message that was cut, those before it are all, so the name may not be the one that was
-    /// meant: see `tc` of the header.
+    /// Returns `None` if more records than the limit lead on, as they do where a name leads back to itself. Returns
+    /// `None`, too, if there is no question, or one that the header counts is missing.
     ///
-    /// The answers are read at most once more often than there are CNAME records among them. In 65,535 octets that are
-    /// crafted to be expensive, that is thousands of times. For messages that anyone can send, use
-    /// `canonical_name_with_limit`.
-    pub fn canonical_name(&self) -> Option<ParsedName<&[u8]>>
-        ensures some { IfSome result (HasCanonicalName self.now) }
-        ensures none { IsNone result → HasNoCanonicalName self.now }
+    /// The records can be in any order. Of two with one owner the first is followed. Case of ASCII letters is ignored,
+    /// and so are the classes and the question's type: a query for CNAME or ANY isn't restarted at the target, but its
+    /// canonical name is still the end. A CNAME record whose data isn't one name is skipped. Where an answer is
+    /// missing, as in a truncated message, those before it are all, so the name may not be the one that was meant: see
+    /// `tc` of the header.
+    ///
+    /// The answers are read at most once more often than the limit says.
+    pub fn canonical_name(&self, limit: u16) -> Option<ParsedName<&[u8]>>
+        ensures some { IfSome result (HasCanonicalName self.now limit) }
+        ensures none { IsNone result → HasNoCanonicalName self.now limit }
     {
-        self.canonical_name_with::<Brand>(Blank::new(1))
+        self.canonical_name_with::<Brand>(limit, Blank::new(1))
     }
 
     /// `canonical_name_counted` with a new count, which is dropped: only a function that is generic over ledgers can
     /// begin one.
-    fn canonical_name_with<L: Ledger>(&self, blank: Blank) -> Option<ParsedName<&[u8]>>
+    fn canonical_name_with<L: Ledger>(&self, limit: u16, blank: Blank) -> Option<ParsedName<&[u8]>>
         requires ledger { blank.name ≡ L.name }
         requires parts { blank.parts ≡ L.parts }
         requires more { 0 < blank.parts }
-        ensures some { IfSome result (HasCanonicalName self.now) }
-        ensures none { IsNone result → HasNoCanonicalName self.now }
+        ensures some { IfSome result (HasCanonicalName self.now limit) }
+        ensures none { IsNone result → HasNoCanonicalName self.now limit }
     {
-        self.canonical_name_counted(&mut Passes::<L>::new(blank))
+        self.canonical_name_counted(limit, &mut Passes::<L>::new(blank))
     }
 
     /// Returns the same as `canonical_name`, and counts in `passes`, which contracts alone see, how often the answers
-    /// are read. The count grows by at most one more than the number of CNAME records among the answers. Only the
-    /// answers before the first missing one matter, however many the header counts. The count doesn't grow where there
-    /// is no question, or one is missing.
+    /// are read. The count grows by at most one more than the limit.
     pub fn canonical_name_counted<L: Ledger>(
-        &self,
-        passes: &mut Passes<L>,
-    ) -> Option<ParsedName<&[u8]>>
-        ensures some { IfSome result (HasCanonicalName self.now) }
-        ensures none { IsNone result → HasNoCanonicalName self.now }
-        ensures few_passes { PassesFew self.now passes.old passes.new }
-    {
-        let Some((answers, name)) = self.asked() else {
-            return None;
-        };
-        let (first, count) = first_alias_and_count(answers, &name, passes);
-        match first {
-            Some(target) => end_of_chain(answers, target, u32::from(count), passes),
-            None => Some(name),
-        }
-    }
-
-    /// Returns the canonical name as `canonical_name` does, if at most `limit` CNAME records lead to it. `None` if
-    /// more of them lead on, as they do where a name leads back to itself, there is no question, or one that the
-    /// header counts is missing.
-    ///
-    /// The answers are read at most once more often than the limit says. Resolvers follow 11 to 16.
-    pub fn canonical_name_with_limit(&self, limit: u16) -> Option<ParsedName<&[u8]>>
-        ensures some { IfSome result (HasCanonicalNameWithin self.now limit) }
-        ensures none { IsNone result → HasNoCanonicalNameWithin self.now limit }
-    {
-        self.limited_name_with::<Brand>(limit, Blank::new(1))
-    }
-
-    /// `canonical_name_with_limit_counted` with a new count, which is dropped.
-    fn limited_name_with<L: Ledger>(&self, limit: u16, blank: Blank) -> Option<ParsedName<&[u8]>>
-        requires ledger { blank.name ≡ L.name }
-        requires parts { blank.parts ≡ L.parts }
-        requires more { 0 < blank.parts }
-        ensures some { IfSome result (HasCanonicalNameWithin self.now limit) }
-        ensures none { IsNone result → HasNoCanonicalNameWithin self.now limit }
-    {
-        self.canonical_name_with_limit_counted(limit, &mut Passes::<L>::new(blank))
-    }
-
-    /// The same as `canonical_name_with_limit`, and counts in `passes`, which contracts alone see, how often the
-    /// answers are read. The count grows by at most one more than the limit.
-    pub fn canonical_name_with_limit_counted<L: Ledger>(
         &self,
         limit: u16,
         passes: &mut Passes<L>,
     ) -> Option<ParsedName<&[u8]>>
-        ensures some { IfSome result (HasCanonicalNameWithin self.now limit) }
-        ensures none { IsNone result → HasNoCanonicalNameWithin self.now limit }
+        ensures some { IfSome result (HasCanonicalName self.now limit) }
+        ensures none { IsNone result → HasNoCanonicalName self.now limit }
         ensures few_passes { passes.new ≤ passes.old + limit + 1 }
     {
         let Some((answers, name)) = self.asked() else {

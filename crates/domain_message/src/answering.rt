@@ -50,15 +50,21 @@ fn same_questions<'a>(ours: &'a [u8], theirs: &'a [u8], count: u16) -> bool
 }
 
 impl<Octs: Octets> Message<Octs> {
-    /// Whether this message answers the query: it is a response with the query's identifier, and has the query's
-    /// questions, in their order and with their names ignoring ASCII case.
+    /// Returns whether this message answers the query: it is a response with the query's identifier and opcode, and
+    /// has the query's questions, in their order and with their names ignoring ASCII case (RFC 1035, 4.1.1 and 7.3).
     ///
-    /// A message with a question missing answers none, and none answers it.
+    /// A message with a question missing answers none, and none answers it. A response without a question answers only
+    /// a query without one: of a zone transfer in several messages, the later ones can be such responses (RFC 5936,
+    /// 2.2.1), and must be told by their identifier alone.
     pub fn is_answer<Other: Octets>(&self, query: &Message<Other>) -> bool
         ensures { IsTrue result ↔ IsAnswerTo (message_octets self.now) (message_octets query.now) }
     {
         let header = self.header();
-        if !header.qr() || header.id() != query.header().id() {
+        let asked = query.header();
+        if !header.qr() || header.id() != asked.id() {
+            return false;
+        }
+        if header.opcode().to_int() != asked.opcode().to_int() {
             return false;
         }
         let count = self.header_counts().qdcount();

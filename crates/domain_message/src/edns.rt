@@ -4,7 +4,7 @@ ghost use Rattle.domain_header.specs.Values.{rcode_number};
 ghost use Rattle.domain_message.specs.Messages.{message_octets};
 ghost use Rattle.domain_message.specs.OptRecords.{IsTheOpt, HasOptFault, opt_error_text, opt_error_rcode};
 ghost use Rattle.domain_message.specs.OptRecords.{taken_size, opt_class, opt_ttl, opt_data, edns_version};
-ghost use Rattle.domain_message.specs.OptRecords.{upper_code, dnssec_ok_bit};
+ghost use Rattle.domain_message.specs.OptRecords.{upper_code, dnssec_ok_bit, compact_ok_bit};
 
 use crate::edns_data::OptData;
 use crate::edns_options::OptIter;
@@ -108,6 +108,13 @@ impl<'a> OptRecord<'a> {
         ensures { IsTrue result ↔ (dnssec_ok_bit (opt_ttl self.now) ≡ 1) }
     {
         self.ttl / 0x8000 % 2 == 1
+    }
+
+    /// Returns whether its sender accepts compact denials of existence: the bit CO (RFC 9824, 5.1).
+    pub fn compact_ok(&self) -> bool
+        ensures { IsTrue result ↔ (compact_ok_bit (opt_ttl self.now) ≡ 1) }
+    {
+        self.ttl / 0x4000 % 2 == 1
     }
 
     /// The response code of twelve bits, of which the header has the lower four.

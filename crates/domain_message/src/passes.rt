@@ -32,7 +32,7 @@ impl<L: Ledger> Passes<L> {
         Passes { book, share }
     }
 
-    /// Counts one more pass. Only `first_alias` and `first_alias_and_count` call it, each of which makes one.
+    /// Counts one more pass. Only `first_alias` calls it, which makes one.
     #[inline(always)]
     pub(crate) fn count(&mut self)
         ensures { self.new ≡ self.old + 1 }

@@ -3,9 +3,11 @@ pub mod Composing
 pub mod Cutting
 pub mod Ending
 pub mod Finishing
+pub mod Marking
 pub mod Ordering
 pub mod Pointing
 pub mod Pushing
 pub mod ReadingBack
 pub mod Replying
 pub mod Rewinding
+pub mod Sets

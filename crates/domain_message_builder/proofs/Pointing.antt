@@ -1,5 +1,5 @@
 -- No pointer leads into a header that was blank while names were composed.
-use Rattle.std.proofs.Common.{◌≡◌, ℕ, ◌+◌, ◌≤◌, ◌<◌, ◌⊎◌, inl, inr, Bool, List, ◌++◌, length, sym, ap, subst, arith, ◌∙◌, append_assoc, length-append}
+use Rattle.std.proofs.Common.{◌≡◌, ℕ, ◌+◌, ◌≤◌, ◌<◌, ◌⊎◌, inl, inr, Bool, List, ◌++◌, length, sym, subst, arith, ◌∙◌, append_assoc, length-append}
 use Rattle.domain_message.specs.Entries.{QuestionFields}
 use Rattle.domain_message.specs.ReadsBack.{name_reads_back}
 use Rattle.domain_rdata.specs.RecordData.{NameOctets}

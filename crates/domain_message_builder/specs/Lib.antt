@@ -8,13 +8,17 @@ pub mod Ends
 pub mod Errors
 pub mod Finished
 pub mod Laws
+pub mod MarkedViews
+pub mod Marks
 pub mod Members
+pub mod Needs
 pub mod Opt
 pub mod OptViews
 pub mod Pointers
 pub mod Pushes
 pub mod Reading
 pub mod Refusals
+pub mod Rrsets
 pub mod SectionErrors
 pub mod SectionQuestions
 pub mod SectionRecords

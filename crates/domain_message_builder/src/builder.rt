@@ -13,6 +13,7 @@ use crate::counting::{
     with_question, with_record, without_records,
 };
 use crate::error::{PushError, StartError};
+use crate::mark::Mark;
 use crate::section_starts::SectionStarts;
 use domain_header::{Header, HeaderCounts, HeaderSection};
 use domain_list::AbsoluteLabels;
@@ -130,6 +131,7 @@ impl<Target: Composer> MessageBuilder<Target> {
     ghost use Rattle.domain_message_builder.specs.BuilderEntries.{AddsQuestion, LeavesQuestion, QuestionNotAdded, QuestionDoesNotFit};
     ghost use Rattle.domain_message_builder.specs.BuilderEntries.{AddsRecord, LeavesRecord, RecordNotAdded, RecordDoesNotFit};
     ghost use Rattle.domain_message_builder.specs.BuilderEntries.{AddsRecordKeeping, RecordNotAddedKeeping, RecordDoesNotFitKeeping};
+    ghost use Rattle.domain_message_builder.specs.Marks.{place_of, state_at};
     ghost use Rattle.domain_message_builder.specs.Views.{target_of};
     ghost use Rattle.domain_message_builder.specs.Pushes.{with_header, with_reserved};
     ghost use Rattle.domain_message_builder.specs.declared.error.PushError.TheVariants.{Count, Limit, Order};
@@ -334,6 +336,30 @@ impl<Target: Composer> MessageBuilder<Target> {
         self.counts = HeaderCounts::new();
         self.starts = SectionStarts::at(12);
         self.target.truncate(12);
+    }
+
+    /// Where the message is now.
+    pub(crate) fn place(&self) -> Mark
+        ensures { result ≡ place_of (state self.now) }
+    {
+        Mark {
+            counts: self.counts,
+            starts: self.starts,
+            len: self.target.as_slice().len(),
+        }
+    }
+
+    /// Takes away again what came after a mark.
+    pub(crate) fn cut_back(&mut self, mark: Mark)
+        requires inside { mark.len ≤ message_len self.old }
+        requires ordered { IsInOrder mark.starts mark.len }
+        ensures state { state self.new ≡ state_at mark (state self.old) }
+        ensures cut { CutsTo mark.len self.old self.new }
+        ensures capacity { target_room self.new ≡ target_room self.old }
+    {
+        self.counts = mark.counts;
+        self.starts = mark.starts;
+        self.target.truncate(mark.len);
     }
 
     /// Writes the header, and returns the target: its octets are the message.

@@ -20,7 +20,7 @@ use domain_rdata::Composer;
 use octseq::Octets;
 
 /// The header with the bit TC set.
-fn cut_header(header: Header) -> Header
+pub(crate) fn cut_header(header: Header) -> Header
     ensures { SetsHigh 2 2 1 header result }
 {
     let mut header = header;

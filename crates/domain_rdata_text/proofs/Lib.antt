@@ -15,6 +15,9 @@ pub mod Sextets
 pub mod Quintets
 pub mod Counting
 pub mod Windows
+pub mod Windowing
+pub mod Listing
+pub mod Members
 pub mod Holding
 pub mod Gathering
 pub mod Plainly

@@ -23,6 +23,11 @@ four_of ts t = weight_of ts t 8 + weight_of ts (t + 1) 4 + weight_of ts (t + 2) 
 unfoldable pub octet_of : List ℕ → ℕ → ℕ
 octet_of ts t = four_of ts t * 16 + four_of ts (t + 4)
 
+-- the types of the window w
+abbrev pub of_window : ℕ → List ℕ → List ℕ
+of_window w [] = []
+of_window w (t ∷ ts) = if t / 256 == w then t ∷ of_window w ts else of_window w ts
+
 -- n octets, of which the first has the bit of the type t
 abbrev pub bitmap : List ℕ → ℕ → ℕ → List ℕ
 bitmap ts t zero = []

@@ -1,7 +1,8 @@
 -- What is shown is read back.
-use Rattle.std.specs.Prelude.{◌≡◌, ℕ, ◌<◌, ◌≤◌, List, length, Ok}
+use Rattle.std.specs.Prelude.{◌≡◌, ℕ, ◌<◌, ◌≤◌, List, length, Some, Ok}
 use Rattle.std.specs.List.{AllByRecursion}
 use Rattle.domain_descriptor.specs.declared.kind.FieldKind.{FieldKind}
+use Rattle.domain_rdata_text.specs.Bitmaps.{has_type, bitmaps_of, types_of_bitmaps}
 use Rattle.domain_rdata_text.specs.Texts.{data_text, text_octets, IsPlain}
 use Rattle.domain_rdata_text.specs.Values.{Val, vals_octets, ValuesAt}
 
@@ -18,3 +19,7 @@ AreReadBack kinds m p vs e =
 -- What the fields of data hold has octets that are data with these fields, and no name in it is compressed.
 abbrev pub ArePlain : List FieldKind → List ℕ → ℕ → List Val → ℕ → Type 0
 ArePlain kinds m p vs e = AreOctets m → p ≤ length m → ValuesAt kinds m p vs e → IsPlain kinds (vals_octets vs)
+
+-- In the bitmaps of types some are found, and they are the same types, in whatever order.
+abbrev pub AreFound : List ℕ → Type 0
+AreFound ts = (us : List ℕ) × (types_of_bitmaps (bitmaps_of ts) ≡ Some us) × ((t : ℕ) → has_type t us ≡ has_type t ts)

@@ -87,7 +87,7 @@ has_text (types ts) = is_some_list ts
 has_text (optional_types ts) = true
 has_text (generic os) = false
 
--- whether it takes all words that are left, so that no field follows
+-- whether it takes all remaining words, so that no field follows
 abbrev pub takes_all : Val → Bool
 takes_all (number8 n) = false
 takes_all (number16 n) = false
@@ -110,7 +110,7 @@ takes_all (types ts) = true
 takes_all (optional_types ts) = true
 takes_all (generic os) = false
 
--- Whether data is written field by field: each has a text, and none but the last takes all words that are left.
+-- Whether data is written field by field: each has a text, and none but the last takes all remaining words.
 abbrev pub in_fields : List Val → Bool
 in_fields [] = true
 in_fields (v ∷ vs) = if has_text v then (if takes_all v then is_nil vs else in_fields vs) else false
@@ -129,7 +129,7 @@ data_text vs = joined (data_words vs)
 abbrev pub read_tag : List ℕ → Option (List ℕ)
 read_tag w = if is_tag w then (if nat_le (length w) 255 then Some w else None) else None
 
--- the octets that were read, and the words that are left
+-- the octets that were read, and the remaining words
 pub record SoFar : Type 0 where
   pub octets : List ℕ
   pub words : List WordAt
@@ -196,7 +196,7 @@ abbrev pub take_field : ℕ → TextForm → List ℕ → List WordAt → Result
 take_field n form os [] = if may_be_absent form then Ok (so_far os []) else Err (fault n reasons.MissingWord)
 take_field n form os (w ∷ ws) = take_words form os w ws
 
--- the octets that were read, where no word is left
+-- the octets that were read, where no word remains
 abbrev pub only_fields : List ℕ → List WordAt → Result (List ℕ) Fault
 only_fields os [] = Ok os
 only_fields os (w ∷ ws) = Err (fault w.begin reasons.ExtraWord)

@@ -1,7 +1,7 @@
 //! Bitmaps of types (RFC 4034, 4.1.2).
-ghost use Rattle.std.specs.Prelude.{◌≡◌, ◌==◌, ◌<◌, ◌≤◌, ◌+◌, ◌*◌, Some, None, [], ◌∷◌, option_map, IfOk, OnOk};
+ghost use Rattle.std.specs.Prelude.{◌≡◌, ◌==◌, ◌<◌, ◌≤◌, ◌+◌, ◌*◌, ◌++◌, Some, None, [], ◌∷◌, option_map, IfOk, OnOk};
 ghost use Rattle.std.specs.Cmp.Lexicographic.{pointwise};
-ghost use Rattle.domain_rdata_text.specs.Bitmaps.{has_type, weight_of, four_of, octet_of, bitmap, len_with, bitmap_len, block, blocks};
+ghost use Rattle.domain_rdata_text.specs.Bitmaps.{has_type, weight_of, four_of, octet_of, bitmap, len_with, bitmap_len, of_window, block, blocks};
 ghost use Rattle.domain_rdata_text.specs.Bitmaps.{windows_with, window_count, bitmaps_of, with_bit, with_four, with_octet};
 ghost use Rattle.domain_rdata_text.specs.Bitmaps.{IsBlock, block_after, types_in, types_of_bitmaps};
 ghost use Rattle.domain_rdata_text.specs.Outcome.{AppendedTo};
@@ -98,8 +98,57 @@ fn append_bitmap(types: &[u16], window: u16, len: u16, made: &mut Vec<u8>) -> Re
     Ok(())
 }
 
+/// Appends a type, if it is of a window.
+fn append_type(window: u16, rtype: u16, types: &mut Vec<u16>) -> Result<(), AllocError>
+    ensures { OnOk result
+        (types.new.items ≡ types.old.items ++ of_window window (rtype ∷ [])) }
+{
+    if rtype / 256 != window {
+        return Ok(());
+    }
+    types.push(rtype)?;
+    Ok(())
+}
+
+/// The types of a window.
+#[tactic(auto, using(crate::proofs::Windowing::next_type))]
+fn types_of_window(alloc: Global, types: &[u16], window: u16) -> Result<Vec<u16>, AllocError>
+    ensures { IfOk result (λ found. found.items ≡ of_window window types.now) }
+{
+    let mut found = Vec::new(alloc);
+    let mut rest = types;
+    'rtype: while let [rtype, after @ ..] = rest {
+        append_type(window, *rtype, &mut found)?;
+        rest = after;
+    }
+    Ok(found)
+}
+
+/// Appends the first `len` octets of the bitmap of a window. Each bit is looked for among the types of that window.
+#[tactic(auto, using(crate::proofs::Windowing::same_bitmap))]
+fn append_own(
+    alloc: Global,
+    types: &[u16],
+    window: u16,
+    len: u16,
+    made: &mut Vec<u8>,
+) -> Result<(), AllocError>
+    requires window { window < 256 }
+    requires few { len ≤ 32 }
+    ensures { OnOk result
+        (AppendedTo made.old.items (bitmap types.now (window * 256) len) made.new.items) }
+{
+    let own = types_of_window(alloc, types, window)?;
+    append_bitmap(own.as_slice(), window, len, made)
+}
+
 /// Appends the block of a window, if one of the types is of it.
-fn append_block(types: &[u16], window: u16, made: &mut Vec<u8>) -> Result<(), AllocError>
+fn append_block(
+    alloc: Global,
+    types: &[u16],
+    window: u16,
+    made: &mut Vec<u8>,
+) -> Result<(), AllocError>
     requires { window < 256 }
     ensures { OnOk result (AppendedTo made.old.items (block types.now window) made.new.items) }
 {
@@ -108,17 +157,22 @@ fn append_block(types: &[u16], window: u16, made: &mut Vec<u8>) -> Result<(), Al
         return Ok(());
     }
     append_all(&[window as u8, len as u8], made)?;
-    append_bitmap(types, window, len, made)
+    append_own(alloc, types, window, len, made)
 }
 
 /// Appends the blocks of the first windows.
 #[tactic(auto, using(crate::proofs::Counting::one_block))]
-fn append_blocks(types: &[u16], count: u16, made: &mut Vec<u8>) -> Result<(), AllocError>
+fn append_blocks(
+    alloc: Global,
+    types: &[u16],
+    count: u16,
+    made: &mut Vec<u8>,
+) -> Result<(), AllocError>
     requires { count ≤ 256 }
     ensures { OnOk result (AppendedTo made.old.items (blocks types.now count) made.new.items) }
 {
     for window in 0..count {
-        append_block(types, window, made)?;
+        append_block(alloc, types, window, made)?;
     }
     Ok(())
 }
@@ -152,10 +206,14 @@ fn window_count(types: &[u16]) -> u16
 
 /// Appends the bitmaps of types, which may be in any order.
 #[tactic(auto, unfolding(crate::specs::Bitmaps::bitmaps_of))]
-pub(crate) fn append_bitmaps(types: &[u16], made: &mut Vec<u8>) -> Result<(), AllocError>
+pub(crate) fn append_bitmaps(
+    alloc: Global,
+    types: &[u16],
+    made: &mut Vec<u8>,
+) -> Result<(), AllocError>
     ensures { OnOk result (AppendedTo made.old.items (bitmaps_of types.now) made.new.items) }
 {
-    append_blocks(types, window_count(types), made)
+    append_blocks(alloc, types, window_count(types), made)
 }
 
 /// Appends a type, if the last bit of a number is a one.
@@ -199,7 +257,7 @@ pub(crate) enum Block {
     Ended,
     /// The window of one more.
     Window(u8),
-    /// A part of one. The first bit of the next octet is that of the type, and so many octets are to come.
+    /// A part of one. The first bit of the next octet is that of the type, and so many octets follow.
     Bitmap(u16, u8),
 }
 
@@ -268,7 +326,7 @@ pub(crate) fn types_of_bitmaps(alloc: Global, octets: &[u8]) -> Result<Option<Ve
         return Ok(None);
     };
     let mut made = Vec::new(alloc);
-    append_bitmaps(types.as_slice(), &mut made)?;
+    append_bitmaps(alloc, types.as_slice(), &mut made)?;
     if !are_same(made.as_slice(), octets) {
         return Ok(None);
     }

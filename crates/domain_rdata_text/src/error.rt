@@ -13,7 +13,7 @@ pub enum Reason {
     Parenthesis,
     /// The text ends where a word is due.
     MissingWord,
-    /// A word is left after the last field.
+    /// A word follows the last field.
     ExtraWord,
     /// The word isn't a number in decimal digits, or one of too many bits.
     Number,

@@ -294,7 +294,7 @@ fn push_types(alloc: Global, words: &[Word], made: &mut Vec<u8>) -> Result<(), R
         (λ f. with_bitmaps made.old.items (types_words (Ok []) (words_of words.now)) ≡ Err f) }
 {
     let types = types_of_words(alloc, words)?;
-    match append_bitmaps(types.as_slice(), made) {
+    match append_bitmaps(alloc, types.as_slice(), made) {
         Ok(()) => Ok(()),
         Err(_) => Err(ReadError::Memory),
     }

@@ -1,7 +1,7 @@
 //! What is shown is read back.
 ghost use Rattle.std.specs.Prelude.{ℕ, List};
 ghost use Rattle.domain_descriptor.specs.declared.kind.FieldKind.{FieldKind};
-ghost use Rattle.domain_rdata_text.specs.Laws.{AreReadBack, ArePlain};
+ghost use Rattle.domain_rdata_text.specs.Laws.{AreReadBack, ArePlain, AreFound};
 ghost use Rattle.domain_rdata_text.specs.Texts.{IsPlain, IsNotPlain};
 ghost use Rattle.domain_rdata_text.specs.Values.{Val};
 
@@ -23,4 +23,10 @@ pub fn plain_law()
 pub fn octets_law()
     ensures { (kinds : List FieldKind) (m : List ℕ) (p : ℕ) (vs : List Val) (e : ℕ)
         → ArePlain kinds m p vs e }
+{}
+
+/// The call does nothing: its contract is the law. The bitmaps of any types are shown as types, and not after `\#`:
+/// they are the types that have these bitmaps.
+pub fn types_law()
+    ensures { (ts : List ℕ) → AreFound ts }
 {}

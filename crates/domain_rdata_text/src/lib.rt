@@ -29,7 +29,7 @@ pub mod words;
 pub use error::{Fault, ReadError, Reason};
 pub use form::{TextForm, text_form};
 pub use from_text::read;
-pub use laws::{octets_law, plain_law, read_back_law};
+pub use laws::{octets_law, plain_law, read_back_law, types_law};
 pub use place::{Place, place_of};
 pub use to_text::show;
 pub use value::{PlainData, Value, plain_data};

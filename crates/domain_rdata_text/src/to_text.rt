@@ -122,7 +122,7 @@ fn has_some_list(strings: &[Vec<u8>]) -> bool
     }
 }
 
-/// Whether a value takes all words that are left, so that no field follows.
+/// Whether a value takes all remaining words, so that no field follows.
 fn takes_all_words(value: &Value) -> bool
     ensures { result ≡ takes_all (val_of value.now) }
 {
@@ -160,8 +160,8 @@ fn are_none(values: &[Value]) -> bool
     }
 }
 
-/// Whether data with these values is written field by field: each has a text, and none but the last takes all words
-/// that are left.
+/// Whether data with these values is written field by field: each has a text, and none but the last takes all
+/// remaining words.
 fn are_in_fields(values: &[Value]) -> bool
     ensures { result ≡ in_fields (vals_of values.now) }
 {
@@ -193,14 +193,15 @@ fn words_of_data(alloc: Global, plain: &PlainData) -> Result<Vec<Vec<u8>>, Alloc
 /// Appends the text of record data: its fields with a space between two (RFC 1035, 5.1), or `\#`, the number of its
 /// octets and these in hexadecimal digits (RFC 3597, 5).
 ///
-/// The second is for data with a field that has no form of its own ([`TextForm`](crate::TextForm)), whose last field
-/// is empty, or with bitmaps of types that aren't canonical (RFC 4034, 4.1.2). Names are written with their final dot,
-/// and without pointers. In them a dot, a backslash, a space and `;`, `"`, `(`, `)`, `@`, `$` are written after a
-/// backslash, other octets that aren't printed as a backslash and three digits.
+/// The second form is for data with a field that has no form of its own ([`TextForm`](crate::TextForm)), for data
+/// whose last field is empty, and for bitmaps of types that aren't canonical (RFC 4034, 4.1.2).
+///
+/// Names are written with their final dot, and without pointers. In a label a dot, a backslash, a space and `;`, `"`,
+/// `(`, `)`, `@`, `$` follow a backslash. Other octets that can't be printed are a backslash and three digits.
 ///
 /// # Errors
 ///
-/// Where there was no memory. The text is then as before.
+/// Returns an error if allocation failed. The text is then unchanged.
 pub fn show(alloc: Global, rdata: &Rdata<'_>, text: &mut Vec<u8>) -> Result<(), AllocError>
     ensures ok { OnOk result ((vs : List Val) × HasValues rdata.now vs
         × AppendedTo text.old.items (data_text vs) text.new.items) }

@@ -2,8 +2,6 @@
 use Rattle.std.specs.Prelude.{◌≡◌, ◌⊎◌, List, ℕ, [], ◌∷◌, Option, Bool, true, false, codes, IfSome}
 use Rattle.std.specs.Io.KnownBytes.{Keeps}
 use Rattle.domain_tool.specs.Numerals.{IsOffsetWord}
-use Rattle.domain_tool.specs.declared.tool.ToolError.{ToolError}
-use Rattle.domain_tool.specs.declared.tool.ToolError.TheVariants as fault
 use Rattle.domain_walk.specs.Engines.{WritesFollowed}
 use Rattle.domain_walk.specs.Hexadecimal.{start, IsHexText, IsHexFault}
 use Rattle.domain_lines.specs.Messages.{WritesShown}
@@ -11,10 +9,6 @@ use Rattle.domain_walk.specs.declared.hexadecimal.HexError.{HexError}
 use Rattle.domain_walk.specs.declared.hexadecimal.HexFault.{HexFault}
 use Rattle.domain_walk.specs.declared.engine.Asked.{Asked}
 use Rattle.domain_walk.specs.declared.engine.Asked.TheVariants.{Name, Message}
-
--- Reading, writing or memory failed.
-abbrev pub IsOfStream : ToolError → Type 0
-IsOfStream e = (e ≡ fault.Read) ⊎ (e ≡ fault.Write) ⊎ (e ≡ fault.Memory)
 
 -- The word is this offset in decimal digits, or `message`.
 abbrev pub WordAsks : List ℕ → Asked → Type 0

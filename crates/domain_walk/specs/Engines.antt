@@ -1,5 +1,5 @@
 -- What the program writes of a name that it follows.
-use Rattle.std.specs.Prelude.{◌≡◌, ℕ, ◌≤◌, List, [], ◌∷◌, ◌++◌, Option, Bool, true, false, IfSome}
+use Rattle.std.specs.Prelude.{◌≡◌, ℕ, ◌≤◌, List, [], ◌∷◌, ◌++◌, Option, Bool, true, false}
 use Rattle.std.specs.Io.KnownBytes.{Appends}
 use Rattle.domain_wire.specs.Refusals.{refusal_text}
 use Rattle.domain_label.specs.Text.{text_with_final_dot}
@@ -30,11 +30,6 @@ pub record WritesFollowed (m : List ℕ) (p : ℕ) (found : Bool) (old new : Opt
 -- The same of an output: `contents` tells what it holds, where that is known.
 abbrev pub FollowsName : {W : Type 0} → (W → Option (List ℕ)) → List ℕ → ℕ → W → W → Bool → Type 0
 FollowsName contents m p old new found = WritesFollowed m p found (contents old) (contents new)
-
--- The same of the given message, where it is known what is given.
-abbrev pub FollowsGiven : {W : Type 0} → (W → Option (List ℕ)) → Option (List ℕ) → ℕ → W → W → Bool → Type 0
-FollowsGiven contents given p old new found =
-    IfSome given (λ m. WritesFollowed m p found (contents old) (contents new))
 
 -- A line was written for each label and pointer read from p on, and so many were read.
 abbrev pub StepLines : {W : Type 0} → (W → Option (List ℕ)) → List ℕ → ℕ → W → W → ℕ → Type 0

@@ -1,17 +1,15 @@
 //! The engine of the program `dnswalk`, over any reader and writer.
 ghost use Rattle.std.specs.Prelude.{◌≡◌, ◌≤◌, ◌↔◌, true, false, Some, IfOk, IfErr, IfSome, IsNone, OnOk, OnErr};
 ghost use Rattle.std.specs.Bool.{OnTrue};
-ghost use Rattle.std.specs.Io.KnownBytes.{IsAtEnd};
 ghost use Rattle.domain_lines.specs.Streams.{EitherFailed, IsSentIfPut};
 ghost use Rattle.domain_tool.specs.WordParts.{texts};
-ghost use Rattle.domain_walk.specs.Asked.{IsOfStream, AsksTo, AsksForSomething, WordAsks, IsMessage};
+ghost use Rattle.domain_walk.specs.Asked.{AsksTo, AsksForSomething, WordAsks, IsMessage};
 ghost use Rattle.domain_walk.specs.Asked.{LacksDigits, WritesOf, ShowsOf, Answers, AnswersWords};
-ghost use Rattle.domain_walk.specs.Engines.{FollowsName, FollowsGiven};
+ghost use Rattle.domain_walk.specs.Engines.{FollowsName};
 ghost use Rattle.domain_walk.specs.declared.engine.Asked.{Asked};
 
 use crate::follow::write_lines;
 use crate::hexadecimal::{HexError, read_octets};
-pub use domain_lines::message::show_message;
 use domain_lines::message::write_message;
 use domain_lines::streams::{Sink, Source};
 use domain_list::dotted::DisplayWithDot;
@@ -76,32 +74,6 @@ fn follow_in<W: Sink>(message: &[u8], output: &mut W, offset: u32) -> Result<boo
             Ok(false)
         }
     }
-}
-
-/// Reads the input to its end, and writes a line for each label and pointer that reading the name at the offset comes
-/// to. A last line has the name or the reason why there is none. Returns whether there is a name.
-///
-/// The name may have compression pointers (RFC 1035, 4.1.4), at most 255. `Read`, `Write` or `Memory` where one of
-/// these failed; a message without a name there is no error.
-pub fn follow_name<R: Source, W: Sink>(
-    alloc: Global,
-    input: &mut R,
-    output: &mut W,
-    offset: u32,
-) -> Result<bool, ToolError>
-    ensures whole { OnOk result (IsAtEnd (R.remaining input.new)) }
-    ensures written { IfOk result (FollowsGiven W.contents (R.remaining input.old) offset
-        output.old output.new) }
-    ensures err { IfErr result (λ e. IsOfStream e) }
-    ensures failed { OnErr result
-        (EitherFailed R.failed input.new W.failed output.old output.new) }
-{
-    let octets = match input.read_whole(alloc) {
-        Ok(octets) => octets,
-        Err(e) => return Err(e),
-    };
-    let found = follow_in(octets.as_slice(), output, offset)?;
-    Ok(found)
 }
 
 const USAGE: &str =

@@ -3,3 +3,5 @@ pub mod Replies
 pub mod Passing
 pub mod Finding
 pub mod Responding
+pub mod SignedSets
+pub mod Wholeness

@@ -6,9 +6,11 @@ pub mod Appending
 pub mod EdnsSizes
 pub mod Built
 pub mod MessageHosts
+pub mod Referrals
 pub mod Responses
 pub mod Served
 pub mod Services
+pub mod Signed
 pub mod Exchangers
 pub mod MessageOctets
 pub mod Targets

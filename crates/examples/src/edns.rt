@@ -1,11 +1,14 @@
 //! What a sender states about itself beside its message.
-ghost use Rattle.std.specs.Prelude.{IfErr, IfOk};
+ghost use Rattle.std.specs.Prelude.{IfErr, IfOk, IfSome};
 ghost use Rattle.domain_message.specs.OptRecords.{HasOptFault};
 ghost use Rattle.domain_message.specs.Messages.{message_octets};
-ghost use Rattle.examples.specs.EdnsSizes.{TellsSize};
+ghost use Rattle.domain_message_builder.specs.OptViews.{opt_of};
+ghost use Rattle.examples.specs.EdnsSizes.{SaysCookie, TellsSize};
 
 use domain_message::{Message, OptError, opt_of};
+use domain_message_builder::OptBuilder;
 use octseq::Octets;
+use std::alloc::Global;
 
 /// How many octets the sender of a message takes over UDP: 512 where it doesn't say (RFC 6891, 6.2.5).
 pub fn size_taken<Octs: Octets>(message: &Message<Octs>) -> Result<u16, OptError>
@@ -16,5 +19,21 @@ pub fn size_taken<Octs: Octets>(message: &Message<Octs>) -> Result<u16, OptError
         Ok(Some(opt)) => Ok(opt.udp_payload_size()),
         Ok(None) => Ok(512),
         Err(e) => Err(e),
+    }
+}
+
+/// What an OPT record says that takes 1,232 octets and has a cookie (RFC 7873, 4): eight octets of a client's own, and
+/// behind them those that the server sent before. `None` only if an allocation failed, or the cookie has more than
+/// 65,531 octets.
+pub fn with_cookie(alloc: Global, cookie: &[u8]) -> Option<OptBuilder<Vec<u8>>>
+    ensures { IfSome result (λ opt. SaysCookie cookie.now (opt_of opt)) }
+{
+    let Ok(mut opt) = OptBuilder::new(Vec::new(alloc)) else {
+        return None;
+    };
+    opt.set_udp_payload_size(1232);
+    match opt.push_raw_option(10, cookie) {
+        Ok(()) => Some(opt),
+        Err(_) => None,
     }
 }

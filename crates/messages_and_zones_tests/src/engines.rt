@@ -174,6 +174,9 @@ fn a_reason_that_is_not_written_changes_no_status(rt: HostRuntime) {
     };
     assert!(rt; status_of(rt.alloc(), &["at", "99"], &mut told) == 1);
     assert!(rt; status_of(rt.alloc(), &["at"], &mut told) == 2);
+    let mut input = failing_reader(3, ErrorKind::BrokenPipe);
+    let mut output = ArrayVec::<u8, 32>::new();
+    assert!(rt; run(rt.alloc(), &["at", "0"], &mut input, &mut output, &mut told) == 3);
 }
 
 /// The name of three labels of 63 octets and one of 61, each octet four characters.

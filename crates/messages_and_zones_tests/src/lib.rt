@@ -30,6 +30,8 @@ mod records;
 #[cfg(test)]
 mod refused;
 #[cfg(test)]
+mod rrsets;
+#[cfg(test)]
 mod zone_faults;
 #[cfg(test)]
 mod zone_merging;

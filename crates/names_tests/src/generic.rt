@@ -1,5 +1,6 @@
 //! Callers that are generic over builders, octets and names: the traits' clauses suffice for them.
-ghost use Rattle.std.specs.Prelude.{◌≡◌, ◌≤◌, ◌<◌, ◌+◌, ◌∷◌, ◌↔◌, ℕ, List, length, slice_set, IsOk, IsErr, IfOk, IfSome, IsTrue, MatchBool};
+ghost use Rattle.std.specs.Prelude.{◌≡◌, ◌≤◌, ◌<◌, ◌+◌, ◌∷◌, ◌↔◌, ℕ, List, length, slice_set};
+ghost use Rattle.std.specs.Prelude.{IsOk, IsErr, IfOk, IfSome, IsTrue, MatchBool};
 ghost use Rattle.domain_label.specs.Lowercase.{lowercase_labels};
 ghost use Rattle.domain_label.specs.Labels.{label_octets};
 ghost use Rattle.domain_label.specs.Wire.{wire};

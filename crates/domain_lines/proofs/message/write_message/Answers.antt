@@ -20,7 +20,7 @@ returns-clause-written g c =
     let start : message c.seek.new.self ≡ m = same_message _ _ _ c.in_default.ensures.ok ∙ c.from_ref-parser.ensures.message in
     let before = subst (λ o. Wrote (ShowsAuthority o (position c.write_to_authority.new.parser)) (g.W.Sink.takes old mid)) start c.in_default-write_to_authority.ensures.written in
     let same = same_message _ _ _ c.in_default-write_to_authority.ensures.moves ∙ start in
-    on_ok_weaker c.write_section.result (λ here. wrote_message g.W.Sink.takes g.met.W.Sink.nothing g.met.W.Sink.joined m (message c.write_to_authority.new.parser) (position c.write_to_authority.new.parser) (position c.write_section.new.parser) old mid _ same before here) c.write_section.ensures.written
+    on_ok_weaker c.write_rest.result (λ rest. wrote_message g.W.Sink.takes g.met.W.Sink.nothing g.met.W.Sink.joined m (message c.write_to_authority.new.parser) (position c.write_to_authority.new.parser) old mid _ same before rest) c.write_rest.ensures.written
 
 pub returns-clause-refused : goal.returns-clause-refused
 returns-clause-refused g c =
@@ -30,4 +30,4 @@ returns-clause-refused g c =
     let start : message c.seek.new.self ≡ m = same_message _ _ _ c.in_default.ensures.ok ∙ c.from_ref-parser.ensures.message in
     let before = subst (λ o. Wrote (ShowsAuthority o (position c.write_to_authority.new.parser)) (g.W.Sink.takes old mid)) start c.in_default-write_to_authority.ensures.written in
     let same = same_message _ _ _ c.in_default-write_to_authority.ensures.moves ∙ start in
-    stopped_additional g.W.Sink.takes g.met.W.Sink.nothing g.met.W.Sink.joined m (message c.write_to_authority.new.parser) (position c.write_to_authority.new.parser) old mid _ c.write_section.result same before c.write_section.ensures.refused
+    stopped_additional g.W.Sink.takes g.met.W.Sink.nothing g.met.W.Sink.joined m (message c.write_to_authority.new.parser) (position c.write_to_authority.new.parser) old mid _ c.write_rest.result same before c.write_rest.ensures.refused

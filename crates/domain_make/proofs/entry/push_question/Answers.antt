@@ -1,5 +1,5 @@
 use Rattle.domain_make.proofs.Entering.{question_refused, question_stopped}
-use Rattle.domain_data_text.proofs.Telling.{passed_on}
+use Rattle.domain_make.proofs.Telling.{passed_on}
 use Rattle.domain_make.proofs.entry.push_question.Goals as goal
 
 pub returns-in_err-question-clause-err : goal.returns-in_err-question-clause-err

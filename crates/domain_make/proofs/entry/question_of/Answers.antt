@@ -1,6 +1,6 @@
 use Rattle.std.proofs.Common.{arith}
 use Rattle.domain_make.proofs.Entering.{three, question_no_name, question_no_class, question_no_type}
-use Rattle.domain_data_text.proofs.Telling.{passed_on}
+use Rattle.domain_make.proofs.Telling.{passed_on}
 use Rattle.domain_make.proofs.entry.question_of.Goals as goal
 
 pub returns-in_err-qname-clause-err : goal.returns-in_err-qname-clause-err

@@ -1,14 +1,17 @@
 use Rattle.std.proofs.Common.{◌≡◌, sym, subst, arith, ◌∙◌}
 use Rattle.std.proofs.lemmas.Bool.{false≢true}
 use Rattle.domain_make.specs.declared.remark.Stage.TheVariants.{Questions}
-use Rattle.domain_data_text.specs.Words.{AreWords, words_at}
+use Rattle.domain_make.specs.Words.{AreWords, words_at}
 use Rattle.domain_make.proofs.Drafting.{takes_nothing}
 use Rattle.domain_make.proofs.Refusing.{refuses_words, refuses_outside_first, only_questions}
-use Rattle.domain_data_text.proofs.Telling.{passed_on, if_refused}
+use Rattle.domain_make.proofs.Telling.{passed_on, if_refused}
 use Rattle.domain_make.proofs.line.take_entry.Goals as goal
 
+pub returns-in_err-found-clause-err : goal.returns-in_err-found-clause-err
+returns-in_err-found-clause-err g c = passed_on _ _ _ c.from_residual.ensures.1 (if_refused _ _ _ (λ f k lack. refuses_words _ _ _ _ f k c.requires lack) c.in_err-found.ensures.err)
+
 pub returns-in_err-words-clause-err : goal.returns-in_err-words-clause-err
-returns-in_err-words-clause-err g c = passed_on _ _ _ c.from_residual.ensures.1 (if_refused _ _ _ (λ f k lack. refuses_words _ _ _ _ f k c.requires lack) c.in_err-words.ensures.err)
+returns-in_err-words-clause-err g c = passed_on _ _ _ c.from_residual-in_err-words.ensures.1 (if_refused _ _ _ (λ f k lack. refuses_words _ _ _ _ f k c.requires lack) c.in_err-words.ensures.err)
 
 pub returns-then-words-eq0-clause-ok : goal.returns-then-words-eq0-clause-ok
 returns-then-words-eq0-clause-ok g c = takes_nothing _ _ _ _ _ c.requires c.if-words-eq0.true (subst (λ ws. AreWords c.args.line.now 0 (words_at ws)) (sym c.as_slice-words.ensures.value) c.in_ok-words.ensures.ok)

@@ -12,7 +12,7 @@ loop-at-preserved g c = record {
 }
 
 pub returns-in-Err-clause-refused : goal.returns-in-Err-clause-refused
-returns-in-Err-clause-refused g c = line_refused _ _ _ _ _ _ _ _ _ _ c.loop-at.invariant.taken c.loop-at-test.true c.line_end-end.ensures c.in-Err.ensures.err c.refused_line.ensures
+returns-in-Err-clause-refused g c = line_refused _ _ _ _ _ _ _ _ _ _ c.loop-at.invariant.taken c.loop-at-test.true c.line_end-end.ensures c.in-Err.ensures.err c.refused_line.ensures.line
 
 pub returns-clause-all : goal.returns-clause-all
 returns-clause-all g c = taken_all _ _ _ _ _ _ _ c.loop-at.invariant.taken c.loop-at-test.false

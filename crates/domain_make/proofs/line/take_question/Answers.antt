@@ -1,7 +1,7 @@
 use Rattle.domain_make.proofs.Drafting.{on_ok, takes_question}
-use Rattle.domain_data_text.proofs.Listing.{some_words}
+use Rattle.domain_make.proofs.Entering.{some_words}
 use Rattle.domain_make.proofs.Refusing.{refuses_question}
-use Rattle.domain_data_text.proofs.Telling.{if_err}
+use Rattle.domain_make.proofs.Telling.{if_err}
 use Rattle.domain_make.proofs.line.take_question.Goals as goal
 
 pub returns-clause-ok : goal.returns-clause-ok

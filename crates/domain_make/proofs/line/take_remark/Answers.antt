@@ -2,7 +2,7 @@ use Rattle.std.proofs.Common.{subst}
 use Rattle.domain_make.specs.Remarks.{Remarks}
 use Rattle.domain_make.proofs.Drafting.{takes_remark}
 use Rattle.domain_make.proofs.Refusing.{refuses_remark}
-use Rattle.domain_data_text.proofs.Telling.{if_refused}
+use Rattle.domain_make.proofs.Telling.{if_refused}
 use Rattle.domain_make.proofs.line.take_remark.Goals as goal
 
 pub returns-in-Ok-clause-ok : goal.returns-in-Ok-clause-ok

@@ -1,7 +1,7 @@
 use Rattle.std.proofs.Common.{refl}
 use Rattle.domain_make.proofs.Marking.{comma_there, status_there, second_there, id_there, opcode_there, rcode_there, number_there, codes_lack}
 use Rattle.domain_make.proofs.Texts.{codes_joined}
-use Rattle.domain_data_text.proofs.Telling.{passed_on}
+use Rattle.domain_make.proofs.Telling.{passed_on}
 use Rattle.domain_make.proofs.remark.codes_of.Goals as goal
 
 pub returns-in_default-clause-err : goal.returns-in_default-clause-err

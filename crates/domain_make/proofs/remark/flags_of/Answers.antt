@@ -1,5 +1,5 @@
 use Rattle.domain_make.proofs.Marking.{flags_lack}
-use Rattle.domain_data_text.proofs.Telling.{passed_on}
+use Rattle.domain_make.proofs.Telling.{passed_on}
 use Rattle.domain_make.proofs.remark.flags_of.Goals as goal
 
 pub returns-in_err-header_part-clause-err : goal.returns-in_err-header_part-clause-err

@@ -3,7 +3,7 @@ use Rattle.std.proofs.lemmas.Bool.{false≢true}
 use Rattle.domain_make.specs.Refusals.NoRemark.{late_codes, late_flags}
 use Rattle.domain_make.specs.Remarks.Remarks.{codes_told, flags_told, heading, comment}
 use Rattle.domain_make.proofs.Marking.{codes_refused, flags_refused, other_refused}
-use Rattle.domain_data_text.proofs.Telling.{passed_on}
+use Rattle.domain_make.proofs.Telling.{passed_on}
 use Rattle.domain_make.proofs.remark.remark.Goals as goal
 
 pub returns-then-not-before_codes-clause-err : goal.returns-then-not-before_codes-clause-err

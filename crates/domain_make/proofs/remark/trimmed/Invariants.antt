@@ -1,6 +1,6 @@
 use Rattle.std.proofs.Common.{ℕ, length, ◌≤◌, ◌<◌}
 use Rattle.std.specs.Prelude.{slice_index}
-use Rattle.domain_data_text.specs.Words.{IsBlank}
+use Rattle.domain_make.specs.Words.{IsBlank}
 use Rattle.domain_make.proofs.remark.trimmed.Given as goal
 
 abbrev pub invariant-loop-end : goal.invariant-loop-end

@@ -1,0 +1,205 @@
+"""A second writer of responses, from RFC 1034 (4.3.2), 1035 (4.1), 2181 (9), 3225, 4035 (3.1.6), 6891, 6895 (3.1) and
+9471. The sections are those of the second reader of zones; here they become octets."""
+
+import pathlib
+import struct
+import sys
+
+sys.path.insert(0, str(pathlib.Path(__file__).resolve().parents[1] / "conformance_zones"))
+import second as zones
+
+FORMERR, NOTIMP, REFUSED, BADVERS = 1, 4, 5, 16
+LEAST, STREAM = 512, 65535
+
+
+def wire(labels):
+    """The wire format of a name (RFC 1035, 3.1)."""
+    return b"".join(bytes([len(it)]) + it.encode("latin-1") for it in labels) + b"\0"
+
+
+def with_data(rtype, rrset, owner=None, ttl=None):
+    """An RRset of a section, in place of its text."""
+    return owner or rrset.owner, rtype, rrset.ttl if ttl is None else ttl, sorted(rrset.spellings)
+
+
+zones.shown = with_data
+
+
+class Short(Exception):
+    """An entry is missing."""
+
+
+def read_name(octets, at):
+    """The labels of a name, and where its encoding ends (RFC 1035, 4.1.4)."""
+    labels, end, jumps = [], None, 0
+    while True:
+        if at >= len(octets):
+            raise Short
+        size = octets[at]
+        if size >= 192:
+            if at + 1 >= len(octets) or jumps > 255:
+                raise Short
+            end = end or at + 2
+            at, jumps = (size & 63) << 8 | octets[at + 1], jumps + 1
+        elif size >= 64:
+            raise Short
+        else:
+            at += 1
+            if size == 0:
+                return labels, end or at
+            if at + size > len(octets):
+                raise Short
+            labels.append(octets[at : at + size].decode("latin-1"))
+            if sum(len(it) + 1 for it in labels) > 254:
+                raise Short
+            at += size
+
+
+class Query:
+    """What is read of a query: the questions, and the OPT records of its additional section."""
+
+    def __init__(self, octets):
+        self.octets = octets
+        self.id, self.flags, *self.counts = struct.unpack(">HHHHHH", octets[:12])
+        self.questions, self.opts, self.is_whole = [], [], True
+        at = 12
+        try:
+            for _ in range(self.counts[0]):
+                name, at = read_name(octets, at)
+                if at + 4 > len(octets):
+                    raise Short
+                self.questions.append((name, *struct.unpack(">HH", octets[at : at + 4])))
+                at += 4
+            for section in (1, 2, 3):
+                for _ in range(self.counts[section]):
+                    at = self.record(section, at)
+        except Short:
+            self.is_whole = False
+
+    def record(self, section, at):
+        owner, at = read_name(self.octets, at)
+        if at + 10 > len(self.octets):
+            raise Short
+        rtype, rclass, ttl, size = struct.unpack(">HHIH", self.octets[at : at + 10])
+        if at + 10 + size > len(self.octets):
+            raise Short
+        if section == 3 and rtype == zones.OPT:
+            self.opts.append((owner, rclass, ttl))
+        return at + 10 + size
+
+
+class Writer:
+    """Octets after a header, with the names of questions and owners compressed (RFC 1035, 4.1.4)."""
+
+    def __init__(self):
+        self.octets, self.places = bytearray(12), {}
+
+    def copy(self):
+        it = Writer()
+        it.octets, it.places = bytearray(self.octets), dict(self.places)
+        return it
+
+    def name(self, labels):
+        for at in range(len(labels)):
+            key = tuple(it.lower() for it in labels[at:])
+            if key in self.places:
+                self.octets += struct.pack(">H", 0xC000 | self.places[key])
+                return
+            if len(self.octets) < 0x4000:
+                self.places[key] = len(self.octets)
+            self.octets += bytes([len(labels[at])]) + labels[at].encode("latin-1")
+        self.octets += b"\0"
+
+    def question(self, name, rtype, rclass):
+        self.name(name)
+        self.octets += struct.pack(">HH", rtype, rclass)
+
+    def rrset(self, owner, rtype, ttl, data):
+        for it in data:
+            self.name(zones.labels_of(owner))
+            self.octets += struct.pack(">HHIH", rtype, 1, ttl, len(it)) + it
+
+
+def refusal(query):
+    """The response code of a query that isn't answered from the zone, whose class is IN, or None."""
+    if is_edns(query) and query.opts[0][2] >> 16 & 255:
+        return BADVERS
+    if query.flags >> 11 & 15:
+        return NOTIMP
+    if not query.is_whole or query.opts and not is_edns(query) or query.counts[0] != 1:
+        return FORMERR
+    _, rtype, rclass = query.questions[0]
+    if rclass != 1:
+        return REFUSED
+    if 251 <= rtype <= 254:
+        return NOTIMP
+    if rtype in (0, zones.OPT, 65535) or 128 <= rtype <= 250:
+        return FORMERR
+    return None
+
+
+def is_edns(query):
+    """All is there, and there is one OPT record, of the root (RFC 6891, 6.1.1 and 6.1.2)."""
+    return query.is_whole and len(query.opts) == 1 and not query.opts[0][0]
+
+
+def has_opt(query):
+    """The response has an OPT record. An OPT record of another owner is one; nothing is said of what isn't whole."""
+    return query.is_whole and bool(query.opts)
+
+
+def in_domain(owner, cut):
+    """The name is at or below the other (RFC 9471, 1)."""
+    low, top = ([it.lower() for it in zones.labels_of(name)] for name in (owner, cut))
+    return not top or low[-len(top) :] == top
+
+
+def fill(writer, sections, room):
+    """The octets and counts of sections, as many RRsets of each as fit, and whether a required one is left out."""
+    counts = [0, 0, 0]
+    for section, sets in enumerate(sections):
+        cut = sections[1][0][0] if section == 2 and sections[1] else "."
+        needed = [it for it in sets if section < 2 or in_domain(it[0], cut)]
+        for it in needed + [it for it in sets if it not in needed]:
+            more = writer.copy()
+            more.rrset(*it)
+            if len(more.octets) > room:
+                if it in needed:
+                    return writer, counts, True
+                break
+            writer = more
+            counts[section] += len(it[3])
+    return writer, counts, False
+
+
+def response(zone, octets, stream, size):
+    """The octets of the response to a query from a zone, by a server that states this size, or None."""
+    if len(octets) < 12 or octets[2] & 128:
+        return None
+    query = Query(octets)
+    code = refusal(query)
+    edns = query.opts[0] if is_edns(query) else None
+    own = max(size, LEAST)
+    limit = STREAM if stream else min(max(edns[1], LEAST), own) if edns else LEAST
+    room = limit - 11 * has_opt(query)
+    writer, counts, aa, cut = Writer(), [0, 0, 0], False, False
+    if query.questions:
+        writer.question(*query.questions[0])
+    asked = int(bool(query.questions))
+    if code is None:
+        name, rtype, _ = query.questions[0]
+        answer, *sections = zone.answer(zones.text_of(name) if name else ".", rtype)
+        for it in sections[0]:
+            if isinstance(it, str):
+                owner, kind, ttl, target = it.split("/")
+                sections[0][1] = owner, int(kind), int(ttl), [wire(zones.labels_of(target))]
+        said = zones.header_of(answer)
+        aa, code = "aa=1" in said, int(said.split("rcode=")[1])
+        writer, counts, cut = fill(writer, sections, room)
+    if has_opt(query):
+        ttl = code >> 4 << 24 | (edns[2] & 0x8000 if edns else 0)
+        writer.octets += b"\0" + struct.pack(">HHIH", zones.OPT, own, ttl, 0)
+        counts[2] += 1
+    flags = 0x8000 | query.flags & 0x7910 | aa << 10 | cut << 9 | code & 15
+    writer.octets[:12] = struct.pack(">HHHHHH", query.id, flags, asked, *counts)
+    return bytes(writer.octets)

@@ -1,6 +1,0 @@
-use Rattle.std.proofs.Common.{refl}
-use Rattle.domain_data_text.proofs.Naming.{no_ipv6}
-use Rattle.domain_data_text.proofs.parts.ipv6_of.Goals as goal
-
-pub returns-in_default-clause-err : goal.returns-in_default-clause-err
-returns-in_default-clause-err c = ((refl, refl), no_ipv6 c.in-Ok.text.now c.args.word.now.octets.now c.in-Ok.ensures.ok.0 c.in_default.ensures.value)

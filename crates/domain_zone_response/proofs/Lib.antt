@@ -1,0 +1,6 @@
+mod Bits
+mod Filling
+mod Growing
+mod Lacking
+mod Parting
+mod Responding

@@ -1,0 +1,9 @@
+pub mod Edns
+pub mod Finishing
+pub mod Headers
+pub mod Included
+pub mod Pushing
+pub mod Queries
+pub mod Responses
+pub mod Rooms
+pub mod Views

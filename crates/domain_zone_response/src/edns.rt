@@ -1,0 +1,75 @@
+//! What a query and a server say by EDNS (RFC 6891).
+ghost use Rattle.std.specs.Prelude.{◌≡◌};
+ghost use Rattle.domain_message.specs.OptRecords.{taken_size};
+ghost use Rattle.domain_message_builder.specs.OptViews.{opt_given};
+ghost use Rattle.domain_zone_response.specs.Edns.{response_limit, response_opt};
+
+use domain_message::{OptError, OptRecord};
+use domain_message_builder::OptBuilder;
+
+/// What carries a response.
+#[derive(Clone, Copy, Debug, PartialEq, Eq)]
+pub enum Transport {
+    /// A datagram, as UDP has it: what the requestor takes is the limit (RFC 1035, 4.2.1; RFC 6891, 6.2).
+    Datagram,
+    /// A stream, as TCP has it: 65,535 octets are the limit (RFC 1035, 4.2.2).
+    Stream,
+}
+
+/// What a server states of itself.
+#[derive(Clone, Copy, Debug, PartialEq, Eq)]
+pub struct Server {
+    /// What carries the response.
+    pub transport: Transport,
+    /// How many octets it sends and takes in a datagram. Fewer than 512 are read as 512 (RFC 6891, 6.2.5).
+    pub payload_size: u16,
+}
+
+/// The number, or 512 where it is less (RFC 6891, 6.2.5).
+fn at_least_512(size: u16) -> u16
+    ensures { result ≡ taken_size size }
+{
+    if size < 512 { 512 } else { size }
+}
+
+/// The most octets that a response has.
+pub(crate) fn limit_of(server: Server, asked: &Result<Option<OptRecord<'_>>, OptError>) -> u16
+    ensures { result ≡ response_limit server asked.now }
+{
+    if let Transport::Stream = server.transport {
+        return 65535;
+    }
+    let own = at_least_512(server.payload_size);
+    match asked {
+        Ok(Some(opt)) => {
+            let size = opt.udp_payload_size();
+            if size < own { size } else { own }
+        }
+        _ => 512,
+    }
+}
+
+/// The OPT record of a response: it has one exactly where the query has one (RFC 6891, 6.1.1). The bit DO is that of
+/// the query (RFC 3225, 3), the version is 0, and there are no options. An OPT record that isn't of the root, or of
+/// which there are two, has no bit DO to copy.
+pub(crate) fn opt_for(
+    server: Server,
+    asked: &Result<Option<OptRecord<'_>>, OptError>,
+    upper: u8,
+) -> Option<OptBuilder<&'static [u8]>>
+    ensures { opt_given result ≡ response_opt server.payload_size asked.now upper }
+{
+    let dnssec_ok = match asked {
+        Ok(None) => return None,
+        Err(OptError::Parse(_)) => return None,
+        Ok(Some(opt)) => opt.dnssec_ok(),
+        Err(_) => false,
+    };
+    let Ok(mut opt) = OptBuilder::new(b"".as_slice()) else {
+        unreachable!();
+    };
+    opt.set_udp_payload_size(at_least_512(server.payload_size));
+    opt.set_rcode_ext(upper);
+    opt.set_dnssec_ok(dnssec_ok);
+    Some(opt)
+}

@@ -1,0 +1,107 @@
+//! RRsets in a message.
+ghost use Rattle.std.specs.Prelude.{◌≡◌, ◌≤◌, ◌∷◌, [], IsTrue, IsFalse};
+ghost use Rattle.domain_header.specs.Values.{class_number};
+ghost use Rattle.domain_message_builder.specs.Builders.{state, target_room};
+ghost use Rattle.domain_zone_answer.specs.Views.{section_view, section_list};
+ghost use Rattle.domain_zone_response.specs.Pushing.{records_of, all_records};
+ghost use Rattle.domain_zone_response.specs.Views.{headed_record, GainsRecords, GainsSome, FillsRecords};
+ghost use Rattle.domain_zone_response.specs.Views.{RecordCannotBeAdded, RrsetDoesNotFit, StopsPushing};
+
+use domain_header::{Class, Ttl};
+use domain_message::{Record, Section};
+use domain_message_builder::MessageBuilder;
+use domain_name::Name;
+use domain_rdata::{Composer, Rtype, UnknownRecordData};
+use domain_zone_answer::SectionRrset;
+
+/// What the records of an RRset have before their data.
+#[derive(Clone, Copy)]
+pub(crate) struct Head<'a> {
+    /// Their owner.
+    pub(crate) owner: Name<&'a [u8]>,
+    /// Their type.
+    pub(crate) rtype: u16,
+    /// Their class.
+    pub(crate) class: Class,
+    /// Their TTL in seconds.
+    pub(crate) ttl: u32,
+}
+
+/// Pushes a record with these octets as data. Returns whether it was pushed.
+pub(crate) fn push_record<Target: Composer>(
+    message: &mut MessageBuilder<Target>,
+    section: Section,
+    head: Head<'_>,
+    octets: &[u8],
+) -> bool
+    ensures pushed { IsTrue result →
+        GainsRecords section (headed_record head.entry octets.now ∷ []) message.old message.new }
+    ensures refused { IsFalse result → state message.new ≡ state message.old }
+    ensures why { IsFalse result →
+        RecordCannotBeAdded section (headed_record head.entry octets.now) message.old }
+    ensures capacity { target_room message.old ≤ target_room message.new }
+{
+    let Ok(rdata) = UnknownRecordData::from_octets(Rtype::from_int(head.rtype), octets) else {
+        return false;
+    };
+    let record = Record::new(head.owner, head.class, Ttl::from_secs(head.ttl), rdata);
+    match message.push(section, &record) {
+        Ok(()) => true,
+        Err(_refused) => false,
+    }
+}
+
+/// Pushes the records of an RRset, up to the first that is refused. Returns whether all were pushed.
+pub(crate) fn push_rrset<Target: Composer>(
+    message: &mut MessageBuilder<Target>,
+    section: Section,
+    class: Class,
+    set: SectionRrset<'_>,
+) -> bool
+    ensures pushed { IsTrue result → GainsRecords section
+        (records_of (class_number class) (section_view set.entry)) message.old message.new }
+    ensures some { GainsSome section message.old message.new }
+    ensures why { IsFalse result → RrsetDoesNotFit section (class_number class)
+        (section_view set.entry) message.old }
+    ensures capacity { target_room message.old ≤ target_room message.new }
+{
+    let head = Head {
+        owner: set.owner(),
+        rtype: set.rtype(),
+        class,
+        ttl: set.ttl(),
+    };
+    let rdata = set.rdata();
+    for octets in rdata {
+        let pushed = push_record(message, section, head, octets.as_slice());
+        if !pushed {
+            return false;
+        }
+    }
+    true
+}
+
+/// Pushes an RRset, if there is one, as the first of its section, whole or not at all. Returns whether none was left
+/// out.
+pub(crate) fn push_first<Target: Composer>(
+    message: &mut MessageBuilder<Target>,
+    section: Section,
+    class: Class,
+    set: Option<SectionRrset<'_>>,
+) -> bool
+    ensures pushed { IsTrue result → FillsRecords section
+        (all_records (class_number class) (section_list set.entry)) message.old message.new }
+    ensures stops { IsFalse result → StopsPushing section (class_number class)
+        (section_list set.entry) message.old message.new }
+    ensures capacity { target_room message.old ≤ target_room message.new }
+{
+    let Some(set) = set else {
+        return true;
+    };
+    let pushed = push_rrset(message, section, class, set);
+    if pushed {
+        return true;
+    }
+    message.rewind(section);
+    false
+}
