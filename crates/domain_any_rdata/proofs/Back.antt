@@ -3,15 +3,16 @@ use Rattle.std.proofs.Common.{◌≡◌, ◌∙◌, ◌⊎◌, ℕ, ◌+◌, ◌
 use Rattle.std.proofs.lemmas.List.{length-take-le, take-append-drop}
 use Rattle.std.proofs.lemmas.List.Folds.{drop_split}
 use Rattle.domain_reading.proofs.Touching.{reads_inside}
-use Rattle.domain_descriptor.proofs.Moving.{moved, form_moved}
-use Rattle.domain_descriptor.proofs.Stopping.{field_stops}
-use Rattle.domain_descriptor.proofs.Whole.{field_inside, field_whole, form_whole}
+use Rattle.domain_any_rdata.proofs.Moving.{moved, form_moved}
+use Rattle.domain_any_rdata.proofs.Stopping.{field_stops}
+use Rattle.domain_descriptor.proofs.Whole.{field_inside}
 use Rattle.domain_descriptor.specs.Fields.{FormAt, FieldsAt}
 use Rattle.domain_descriptor.specs.Forms.{form}
 use Rattle.domain_descriptor.specs.declared.form.FieldForm.{FieldForm}
 use Rattle.domain_descriptor.specs.declared.form.FieldForm.TheVariants as forms
 use Rattle.domain_descriptor.specs.declared.kind.FieldKind.{FieldKind}
 use Rattle.domain_fields.specs.Parts.{Part, no_name, part_octets, parts_octets}
+use Rattle.domain_any_rdata.specs.Whole.{field_whole, form_whole}
 use Rattle.domain_any_rdata.specs.Parts.{form_part, field_part, parts_at}
 use Rattle.domain_any_rdata.proofs.Named.{form_octets}
 

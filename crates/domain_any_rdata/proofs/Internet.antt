@@ -6,7 +6,7 @@ use Rattle.domain_wire.specs.Refusals.{refusal}
 use Rattle.domain_wire.specs.declared.error.ParseError.{ParseError}
 use Rattle.domain_descriptor.specs.Fields.{AreData, AreNoData}
 use Rattle.domain_descriptor.specs.Rdatas.{IsRdata}
-use Rattle.domain_descriptor.specs.Refusals.{error_of_data}
+use Rattle.domain_any_rdata.specs.Refusals.{error_of_data}
 use Rattle.domain_descriptor.specs.Table.{known_fields}
 use Rattle.domain_descriptor.specs.declared.fault.DataFault.{DataFault}
 use Rattle.domain_any_rdata.proofs.Named.{parts_of_data}

@@ -1,3 +1,5 @@
+pub mod Moving
+pub mod Stopping
 pub mod Named
 pub mod Naming
 pub mod Composed
@@ -5,4 +7,5 @@ pub mod Lengths
 pub mod Forms
 pub mod Back
 pub mod ReadingBack
+pub mod Passing
 pub mod Internet

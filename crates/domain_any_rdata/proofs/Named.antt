@@ -4,20 +4,19 @@ use Rattle.domain_label.specs.Wire.{IsAbsoluteName}
 use Rattle.domain_reading.proofs.LabelsAt.{labels_named}
 use Rattle.domain_reading.proofs.Reading.{names_absolute}
 use Rattle.domain_reading.specs.Grammar.{Names}
-use Rattle.domain_descriptor.proofs.Stopping.{field_stops}
+use Rattle.domain_any_rdata.proofs.Stopping.{field_stops}
 use Rattle.domain_descriptor.specs.Fields.{FormAt, FieldsAt, AreData}
 use Rattle.domain_descriptor.specs.Forms.{form}
 use Rattle.domain_descriptor.specs.Rdatas.{rdata_type, rdata_class, rdata_kinds, rdata_message, rdata_begin, field_kind, field_message, field_begin, field_after, kinds_left, fields_message, fields_offset, IsRdata, HasFieldsLeft, TakesField}
-use Rattle.domain_descriptor.specs.Stops.{stop}
+use Rattle.domain_any_rdata.specs.Stops.{stop}
 use Rattle.domain_descriptor.specs.Table.{known_fields}
 use Rattle.domain_descriptor.specs.declared.form.FieldForm.{FieldForm}
 use Rattle.domain_descriptor.specs.declared.form.FieldForm.TheVariants as forms
 use Rattle.domain_descriptor.specs.declared.kind.FieldKind.{FieldKind}
-use Rattle.domain_descriptor.specs.declared.kind.FieldKind.TheVariants.{Name}
+use Rattle.domain_descriptor.specs.declared.kind.FieldKind.TheVariants as kinds
 use Rattle.domain_descriptor.specs.declared.rdata.Rdata.{Rdata}
 use Rattle.domain_descriptor.specs.declared.rdata.Field.{Field}
 use Rattle.domain_descriptor.specs.declared.rdata.FieldIter.{FieldIter}
-use Rattle.domain_descriptor.proofs.Whole.{name_alone}
 use Rattle.domain_fields.specs.Parts.{a_name, no_name}
 use Rattle.domain_any_rdata.specs.Parts.{form_part, field_part, parts_at, rdata_parts, part_of, parts_left, IsNamed, AreNamed}
 
@@ -65,12 +64,41 @@ form_octets forms.Params m p e other = refl
 form_octets forms.Rest m p e other = refl
 
 -- a name, as `Field::name` returns it
-pub named_part : (f : Field) (ls : List (List ℕ)) → field_kind f ≡ Name → Names 255 (field_message f) (field_begin f) ls → part_of f ≡ a_name ls
+pub named_part : (f : Field) (ls : List (List ℕ)) → field_kind f ≡ kinds.Name → Names 255 (field_message f) (field_begin f) ls → part_of f ≡ a_name ls
 named_part f ls is named =
     ap (λ k. field_part k (field_message f) (field_begin f) (field_after f)) is ∙ ap a_name (labels_named named)
 
+-- only a name is read as one
+name_alone : (k : FieldKind) → (k ≡ kinds.Name → ⊥) → form k ≡ forms.Name → ⊥
+name_alone kinds.Number8 other e = cc
+name_alone kinds.Number16 other e = cc
+name_alone kinds.Number32 other e = cc
+name_alone kinds.Number48 other e = cc
+name_alone kinds.Number64 other e = cc
+name_alone kinds.Ttl other e = cc
+name_alone kinds.Serial other e = cc
+name_alone kinds.Time other e = cc
+name_alone kinds.Rtype other e = cc
+name_alone kinds.Ipv4 other e = cc
+name_alone kinds.Ipv6 other e = cc
+name_alone kinds.Name other e = other refl
+name_alone kinds.CharString other e = cc
+name_alone kinds.OptionalString other e = cc
+name_alone kinds.CharStrings other e = cc
+name_alone kinds.Tag other e = cc
+name_alone kinds.QuotedText other e = cc
+name_alone kinds.CountedBase16 other e = cc
+name_alone kinds.CountedBase32 other e = cc
+name_alone kinds.CountedBase64 other e = cc
+name_alone kinds.TypeBitmaps other e = cc
+name_alone kinds.OptionalTypeBitmaps other e = cc
+name_alone kinds.SvcParams other e = cc
+name_alone kinds.Base16 other e = cc
+name_alone kinds.Base64 other e = cc
+name_alone kinds.Octets other e = cc
+
 -- and octets, as `Field::octets` does
-pub octets_part : (f : Field) → (field_kind f ≡ Name → ⊥) → part_of f ≡ no_name (slice_range (field_message f) (field_begin f) (field_after f))
+pub octets_part : (f : Field) → (field_kind f ≡ kinds.Name → ⊥) → part_of f ≡ no_name (slice_range (field_message f) (field_begin f) (field_after f))
 octets_part f other = form_octets (form (field_kind f)) (field_message f) (field_begin f) (field_after f) (name_alone (field_kind f) other)
 
 -- ---- the iterator

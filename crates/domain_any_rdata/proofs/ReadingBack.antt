@@ -6,8 +6,8 @@ use Rattle.domain_reading.proofs.LabelsAt.{labels_named}
 use Rattle.domain_reading.proofs.Reading.{names_absolute}
 use Rattle.domain_reading.specs.Grammar.{EncodingEnds}
 use Rattle.domain_reading.specs.Labels.{labels_at}
-use Rattle.domain_descriptor.proofs.Stopping.{field_stops}
-use Rattle.domain_descriptor.proofs.Whole.{field_inside, field_whole}
+use Rattle.domain_any_rdata.proofs.Stopping.{field_stops}
+use Rattle.domain_descriptor.proofs.Whole.{field_inside}
 use Rattle.domain_descriptor.specs.Fields.{FormAt, FieldsAt, AreData}
 use Rattle.domain_descriptor.specs.Forms.{form}
 use Rattle.domain_descriptor.specs.Rdatas.{rdata_kinds, rdata_message, rdata_begin}
@@ -23,6 +23,7 @@ use Rattle.domain_fields.specs.FieldLaws.{no_longer}
 use Rattle.domain_any_rdata.specs.AllData.{data_of, data_type, data_class, data_parts, SeenData}
 use Rattle.domain_any_rdata.specs.Back.{LikePart, LikeParts, SeenAt, IsLike}
 use Rattle.domain_any_rdata.specs.Composing.{PartComposed, PartsComposed, composed_form, lowers, part_shorter}
+use Rattle.domain_any_rdata.specs.Whole.{field_whole}
 use Rattle.domain_any_rdata.specs.Parts.{form_part, field_part, parts_at}
 use Rattle.domain_any_rdata.specs.declared.all.AllRecordData.{AllRecordData}
 use Rattle.domain_any_rdata.specs.declared.name_form.NameForm.{NameForm}

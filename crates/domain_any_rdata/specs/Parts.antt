@@ -7,7 +7,7 @@ use Rattle.domain_label.proofs.WireLaws.{IsAbsoluteName_prop}
 use Rattle.domain_reading.specs.Labels.{labels_at}
 use Rattle.domain_descriptor.specs.Forms.{form}
 use Rattle.domain_descriptor.specs.Rdatas.{rdata_kinds, rdata_message, rdata_begin, field_kind, field_message, field_begin, field_after, kinds_left, fields_message, fields_offset}
-use Rattle.domain_descriptor.specs.Stops.{field_stop}
+use Rattle.domain_any_rdata.specs.Stops.{field_stop}
 use Rattle.domain_descriptor.specs.declared.form.FieldForm.{FieldForm}
 use Rattle.domain_descriptor.specs.declared.form.FieldForm.TheVariants as forms
 use Rattle.domain_descriptor.specs.declared.kind.FieldKind.{FieldKind}

@@ -5,11 +5,11 @@ use Rattle.domain_wire.specs.Refusals.{refusal, form}
 use Rattle.domain_wire.specs.Values.{IsReading}
 use Rattle.domain_wire.specs.declared.error.ParseError.{ParseError}
 use Rattle.domain_descriptor.specs.Fields.{AreData, AreNoData}
-use Rattle.domain_descriptor.specs.Refusals.{error_of_data}
+use Rattle.domain_any_rdata.specs.Refusals.{error_of_data}
 use Rattle.domain_descriptor.specs.Table.{known_fields}
 use Rattle.domain_descriptor.specs.declared.fault.DataFault.{DataFault}
 use Rattle.domain_descriptor.proofs.Exact.{data_or_fault}
-use Rattle.domain_descriptor.proofs.OneFault.{data_fault_once}
+use Rattle.domain_any_rdata.specs.OneFault.{data_fault_once}
 use Rattle.domain_fields.specs.Parts.{Part}
 use Rattle.domain_any_rdata.specs.AllData.{SeenData}
 use Rattle.domain_any_rdata.specs.Parts.{parts_at}

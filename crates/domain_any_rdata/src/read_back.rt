@@ -1,10 +1,21 @@
 //! The law that composed data of any type is read back.
+ghost use Rattle.domain_descriptor.specs.Fields.{AreData};
+ghost use Rattle.domain_descriptor.specs.Rdatas.{rdata_kinds, rdata_message, rdata_begin};
 ghost use Rattle.domain_descriptor.specs.Table.{compresses_names};
 ghost use Rattle.domain_any_rdata.specs.Back.{SeenAt, IsLike};
 ghost use Rattle.domain_any_rdata.specs.Composing.{composed_form, parts_move};
 
 use crate::all::AllRecordData;
+use domain_descriptor::Rdata;
 use domain_fields::ReadBackData;
+
+/// The law that the octets are exactly the fields. It passes over each field and returns nothing.
+fn are_fields(rdata: &Rdata<'_>)
+    ensures { AreData (rdata_kinds rdata.now) (rdata_message rdata.now) (rdata_begin rdata.now) }
+{
+    let mut fields = rdata.fields();
+    'field: while let Some(_field) = fields.next() {}
+}
 
 /// [`AllRecordData::parse`] reads the composed octets as data of the same type in the same class: names are equal,
 /// ignoring ASCII case, and other fields have the same octets.
@@ -22,6 +33,6 @@ impl<'m> ReadBackData for AllRecordData<'m> {
     ghost moves = { λ it. parts_move (data_parts it) (composed_form (compresses_names (data_type it))) };
 
     fn reads_back(&self) {
-        self.rdata().reads_again()
+        are_fields(&self.rdata())
     }
 }

@@ -51,7 +51,7 @@ bad_length : (n : ℕ) → 1 ≤ n → n ≤ 32 → (n < 1) ⊎ (32 < n) → ⊥
 bad_length n some few (inl none) = omega (arith, some, none)
 bad_length n some few (inr many) = omega (arith, few, many)
 
-pub block_or_fault : (m : List ℕ) (p least e : ℕ) (why : DataFault) → BlockAt m p least e → BlockFault m p least why → ⊥
+block_or_fault : (m : List ℕ) (p least e : ℕ) (why : DataFault) → BlockAt m p least e → BlockFault m p least why → ⊥
 block_or_fault m p least e why a (inl b) = omega (arith, a.0, b.1)
 block_or_fault m p least e why a (inr (inl b)) = omega (arith, a.1, b.2)
 block_or_fault m p least e why a (inr (inr (inl b))) = bad_length (slice_index m (p + 1)) a.2 a.3 b.3
@@ -64,7 +64,7 @@ blocks_or_fault m p least why (block a rest) (block_here inside b) = block_or_fa
 blocks_or_fault m p least why (block a rest) (block_later b other) =
     blocks_or_fault m _ _ why (subst (λ x. BlocksAt m x (slice_index m p + 1)) (a.4 ∙ sym b.4) rest) other
 
-pub param_or_fault : (m : List ℕ) (p least e : ℕ) (why : DataFault) → ParamAt m p least e → ParamFault m p least why → ⊥
+param_or_fault : (m : List ℕ) (p least e : ℕ) (why : DataFault) → ParamAt m p least e → ParamFault m p least why → ⊥
 param_or_fault m p least e why a (inl b) = omega (arith, a.0, b.1)
 param_or_fault m p least e why a (inr (inl b)) = omega (arith, a.1, b.2)
 param_or_fault m p least e why a (inr (inr (inl b))) = omega (arith, a.0, b.3)

@@ -1,7 +1,7 @@
 -- Data that is whole has each of its fields.
-use Rattle.std.proofs.Common.{◌≡◌, ◌∙◌, ◌↔◌, ℕ, zero, suc, ◌<◌, ◌≤◌, ◌-◌, Bool, false, List, [], ◌∷◌, length, take, get_or, inl, inr, refl, sym, ap, subst, arith}
+use Rattle.std.proofs.Common.{◌≡◌, ◌∙◌, ◌↔◌, ℕ, zero, suc, ◌<◌, ◌≤◌, ◌-◌, Bool, false, List, [], ◌∷◌, length, take, get_or, inl, inr, sym, ap, subst, arith}
 use Rattle.std.proofs.lemmas.List.{take_all}
-use Rattle.domain_reading.proofs.Encodings.{front_inside, stop_whole}
+use Rattle.domain_reading.proofs.Encodings.{front_inside}
 use Rattle.domain_reading.proofs.NameOrFault.{names_or_fault}
 use Rattle.domain_reading.specs.Faults.{NameFaultAt}
 use Rattle.domain_reading.specs.Grammar.{Names, IsContiguous}
@@ -9,11 +9,9 @@ use Rattle.domain_reading.specs.ParseResult.{HasNoName}
 use Rattle.domain_reading.specs.declared.fault.NameFault.{NameFault}
 use Rattle.domain_wire.specs.Refusals.{Refusal}
 use Rattle.domain_descriptor.specs.declared.fault.DataFault.{DataFault}
-use Rattle.domain_descriptor.specs.declared.fault.DataFault.TheVariants.{TrailingData}
 use Rattle.domain_descriptor.specs.declared.form.FieldForm.{FieldForm}
 use Rattle.domain_descriptor.specs.declared.form.FieldForm.TheVariants as forms
 use Rattle.domain_descriptor.specs.declared.kind.FieldKind.{FieldKind}
-use Rattle.domain_descriptor.specs.declared.kind.FieldKind.TheVariants as kinds
 use Rattle.domain_descriptor.specs.declared.kind.FieldKind.TheVariants.{Number8, Name}
 use Rattle.domain_descriptor.specs.Forms.{form}
 use Rattle.domain_descriptor.specs.Fields.{NameAt, FormAt, FieldAt, FieldFault, FieldsAt, FieldsFault, AreData, AreNoData}
@@ -41,14 +39,6 @@ no_fault_before kinds m p i why whole fault = whole why (inl (fault_before m p k
 pub no_fault_at : (kinds : List FieldKind) (m : List ℕ) (p i q : ℕ) (why : DataFault) → ((w : DataFault) → AreNoData kinds m p w → ⊥) → i < length kinds → FieldsAt (take i kinds) m p q → FieldFault (get_or kinds i Number8) m q why → ⊥
 no_fault_at kinds m p i q why whole inside before fault = whole why (inl (fault_after m p kinds i q why inside before fault))
 
--- nor in all of them,
-pub no_field_fault : (kinds : List FieldKind) (m : List ℕ) (p : ℕ) (why : DataFault) → ((w : DataFault) → AreNoData kinds m p w → ⊥) → FieldsFault kinds m p why → ⊥
-no_field_fault kinds m p why whole fault = whole why (inl fault)
-
--- and no octet is left after them
-pub none_after : (kinds : List FieldKind) (m : List ℕ) (p e : ℕ) → ((w : DataFault) → AreNoData kinds m p w → ⊥) → FieldsAt kinds m p e → e < length m → ⊥
-none_after kinds m p e whole at left = whole TrailingData (inr (refl, (e, at, left)))
-
 optional_inside : (m : List ℕ) (p e : ℕ) → FormAt forms.OptionalCounted m p e → p ≤ e
 optional_inside m p e (inl a) = omega (arith, a.1)
 optional_inside m p e (inr a) = omega (arith, a.1)
@@ -70,57 +60,6 @@ form_inside forms.Rest m p e inside at = at.1
 -- a field begins before it ends
 pub field_inside : (kind : FieldKind) (m : List ℕ) (p e : ℕ) → p ≤ length m → FieldAt kind m p e → p ≤ e
 field_inside kind m p e inside at = form_inside (form kind) m p e inside at
-
-optional_whole : (m : List ℕ) (p e : ℕ) → FormAt forms.OptionalCounted m p e → e ≤ length m
-optional_whole m p e (inl a) = omega (arith, a.0, a.1)
-optional_whole m p e (inr a) = a.2
-
--- a field ends inside of the octets
-pub form_whole : (it : FieldForm) (m : List ℕ) (p e : ℕ) → FormAt it m p e → e ≤ length m
-form_whole (forms.Fixed n) m p e a = a.1
-form_whole forms.Name m p e a = stop_whole m a.1.2.stop e a.1.1 a.1.2.ends
-form_whole forms.Counted m p e a = a.2
-form_whole forms.OptionalCounted m p e a = optional_whole m p e a
-form_whole forms.SomeCounted m p e a = a.0.2
-form_whole forms.Strings m p e a = omega (arith, a.0)
-form_whole forms.Tag m p e a = a.0.2
-form_whole forms.LongCounted m p e a = a.2
-form_whole forms.Blocks m p e a = omega (arith, a.0)
-form_whole forms.OptionalBlocks m p e a = omega (arith, a.0)
-form_whole forms.Params m p e a = omega (arith, a.0)
-form_whole forms.Rest m p e a = omega (arith, a.0)
-
-pub field_whole : (k : FieldKind) (m : List ℕ) (p e : ℕ) → FieldAt k m p e → e ≤ length m
-field_whole k m p e a = form_whole (form k) m p e a
-
--- only a name is read as one
-pub name_alone : (k : FieldKind) → (k ≡ kinds.Name → ⊥) → form k ≡ forms.Name → ⊥
-name_alone kinds.Number8 other e = cc
-name_alone kinds.Number16 other e = cc
-name_alone kinds.Number32 other e = cc
-name_alone kinds.Number48 other e = cc
-name_alone kinds.Number64 other e = cc
-name_alone kinds.Ttl other e = cc
-name_alone kinds.Serial other e = cc
-name_alone kinds.Time other e = cc
-name_alone kinds.Rtype other e = cc
-name_alone kinds.Ipv4 other e = cc
-name_alone kinds.Ipv6 other e = cc
-name_alone kinds.Name other e = other refl
-name_alone kinds.CharString other e = cc
-name_alone kinds.OptionalString other e = cc
-name_alone kinds.CharStrings other e = cc
-name_alone kinds.Tag other e = cc
-name_alone kinds.QuotedText other e = cc
-name_alone kinds.CountedBase16 other e = cc
-name_alone kinds.CountedBase32 other e = cc
-name_alone kinds.CountedBase64 other e = cc
-name_alone kinds.TypeBitmaps other e = cc
-name_alone kinds.OptionalTypeBitmaps other e = cc
-name_alone kinds.SvcParams other e = cc
-name_alone kinds.Base16 other e = cc
-name_alone kinds.Base64 other e = cc
-name_alone kinds.Octets other e = cc
 
 width_inside : (it : FieldForm) (m : List ℕ) (p e : ℕ) → FormAt it m p e → width it ≤ e - p
 width_inside (forms.Fixed n) m p e at = omega (arith, at.0)

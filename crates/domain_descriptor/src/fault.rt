@@ -1,7 +1,6 @@
 //! Why data isn't of the fields of its type.
 
 use domain_reading::fault::NameFault;
-use domain_wire::ParseError;
 
 /// Why data isn't of the fields of its type: the first error from the left.
 #[derive(Clone, Copy, Debug, PartialEq, Eq)]
@@ -22,26 +21,4 @@ pub enum DataFault {
     KeyOrder,
     /// Octets are left after the last field.
     TrailingData,
-}
-
-/// Short input remains short input, a name's fault becomes its own error, and all others form errors with a text.
-impl From<DataFault> for ParseError {
-    ghost use Rattle.std.specs.Prelude.{◌≡◌};
-    ghost use Rattle.domain_wire.specs.Refusals.{refusal};
-    ghost use Rattle.domain_descriptor.specs.Refusals.{error_of_data};
-
-    ghost from_gives = { λ fault e. refusal e ≡ error_of_data fault };
-
-    fn from(fault: DataFault) -> ParseError {
-        match fault {
-            DataFault::ShortInput => ParseError::ShortInput,
-            DataFault::Name(name) => ParseError::from(name),
-            DataFault::InvalidTag => ParseError::form_error("invalid tag"),
-            DataFault::EmptyHash => ParseError::form_error("hash without an octet"),
-            DataFault::WindowOrder => ParseError::form_error("windows of types out of order"),
-            DataFault::BitmapLength => ParseError::form_error("invalid length of a type bitmap"),
-            DataFault::KeyOrder => ParseError::form_error("keys of parameters out of order"),
-            DataFault::TrailingData => ParseError::form_error("trailing data"),
-        }
-    }
 }

@@ -62,35 +62,6 @@ impl<'m> Rdata<'m> {
         }
     }
 
-    /// Returns the data in octets that are known to be such data. They aren't checked again.
-    pub fn of_whole(rtype: u16, class: u16, message: &'m [u8], begin: usize) -> Rdata<'m>
-        requires inside { begin ≤ length message.now }
-        requires whole { (why : DataFault) → AreNoData (known_fields rtype class) message.now begin why → ⊥ }
-        ensures { IsRdata rtype class message.now begin result }
-    {
-        let kinds = known_fields(rtype, class);
-        Rdata {
-            rtype,
-            class,
-            message,
-            begin,
-            kinds,
-        }
-    }
-
-    /// The law that the octets are exactly fields of its kinds. It checks them again and returns nothing.
-    #[tactic(auto, using(crate::proofs::Whole::no_field_fault, crate::proofs::Whole::none_after, crate::proofs::Steps::whole_data))]
-    pub fn reads_again(&self)
-        ensures { AreData (rdata_kinds self.now) (rdata_message self.now) (rdata_begin self.now) }
-    {
-        let Ok(end) = fields_end(self.kinds, self.message, self.begin) else {
-            unreachable!();
-        };
-        if end < self.message.len() {
-            unreachable!();
-        }
-    }
-
     /// The type of the record.
     pub fn rtype(&self) -> u16
         ensures { result ≡ rdata_type self.now }

@@ -21,6 +21,7 @@ pub mod Members
 pub mod Holding
 pub mod Gathering
 pub mod Plainly
+pub mod Moving
 pub mod Standing
 pub mod Marking
 pub mod Taking

@@ -3,17 +3,18 @@ use Rattle.std.proofs.Common.{◌≡◌, ◌∙◌, ℕ, ◌+◌, ◌-◌, ◌�
 use Rattle.std.proofs.lemmas.List.{length-take-le, take-append-drop}
 use Rattle.std.proofs.lemmas.List.Folds.{drop_split}
 use Rattle.domain_label.specs.Wire.{wire, Root}
+use Rattle.domain_reading.proofs.Encodings.{stop_whole}
 use Rattle.domain_reading.proofs.Reading.{names_absolute, names_within}
 use Rattle.domain_reading.proofs.Touching.{reads_inside}
 use Rattle.domain_reading.proofs.UncompressedIsRead.{plain_names, plain_front}
 use Rattle.domain_reading.specs.Grammar.{Names, EncodingEnds}
 use Rattle.domain_reading.specs.Grammar.Stop.{root as stop_root}
-use Rattle.domain_descriptor.proofs.Moving.{moved, form_moved}
-use Rattle.domain_descriptor.proofs.Whole.{field_inside, field_whole, name_alone}
+use Rattle.domain_descriptor.proofs.Whole.{field_inside}
+use Rattle.domain_descriptor.specs.declared.form.FieldForm.{FieldForm}
 use Rattle.domain_descriptor.specs.declared.form.FieldForm.TheVariants as reading
 use Rattle.domain_descriptor.specs.declared.kind.FieldKind.{FieldKind}
 use Rattle.domain_descriptor.specs.declared.kind.FieldKind.TheVariants as kinds
-use Rattle.domain_descriptor.specs.Fields.{FieldAt, FieldsAt}
+use Rattle.domain_descriptor.specs.Fields.{FormAt, FieldAt, FieldsAt}
 use Rattle.domain_descriptor.specs.Forms.{form}
 use Rattle.domain_rdata_text.specs.Forms.{text_form}
 use Rattle.domain_rdata_text.specs.Laws.{AreOctets}
@@ -21,7 +22,59 @@ use Rattle.domain_rdata_text.specs.Texts.{IsPlain}
 use Rattle.domain_rdata_text.specs.Values.{Val, val_octets, vals_octets, val_in, ValueAt, ValuesAt}
 use Rattle.domain_rdata_text.specs.Values.Val.{name}
 use Rattle.domain_rdata_text.proofs.Holding.{held_in}
+use Rattle.domain_rdata_text.proofs.Moving.{moved, form_moved}
 use Rattle.domain_rdata_text.proofs.Octets.{octets_range}
+
+-- ---- fields end inside of the octets
+optional_whole : (m : List ℕ) (p e : ℕ) → FormAt reading.OptionalCounted m p e → e ≤ length m
+optional_whole m p e (inl a) = omega (arith, a.0, a.1)
+optional_whole m p e (inr a) = a.2
+
+form_whole : (it : FieldForm) (m : List ℕ) (p e : ℕ) → FormAt it m p e → e ≤ length m
+form_whole (reading.Fixed n) m p e a = a.1
+form_whole reading.Name m p e a = stop_whole m a.1.2.stop e a.1.1 a.1.2.ends
+form_whole reading.Counted m p e a = a.2
+form_whole reading.OptionalCounted m p e a = optional_whole m p e a
+form_whole reading.SomeCounted m p e a = a.0.2
+form_whole reading.Strings m p e a = omega (arith, a.0)
+form_whole reading.Tag m p e a = a.0.2
+form_whole reading.LongCounted m p e a = a.2
+form_whole reading.Blocks m p e a = omega (arith, a.0)
+form_whole reading.OptionalBlocks m p e a = omega (arith, a.0)
+form_whole reading.Params m p e a = omega (arith, a.0)
+form_whole reading.Rest m p e a = omega (arith, a.0)
+
+field_whole : (k : FieldKind) (m : List ℕ) (p e : ℕ) → FieldAt k m p e → e ≤ length m
+field_whole k m p e a = form_whole (form k) m p e a
+
+-- only a name is read so
+name_alone : (k : FieldKind) → (k ≡ kinds.Name → ⊥) → form k ≡ reading.Name → ⊥
+name_alone kinds.Number8 other e = cc
+name_alone kinds.Number16 other e = cc
+name_alone kinds.Number32 other e = cc
+name_alone kinds.Number48 other e = cc
+name_alone kinds.Number64 other e = cc
+name_alone kinds.Ttl other e = cc
+name_alone kinds.Serial other e = cc
+name_alone kinds.Time other e = cc
+name_alone kinds.Rtype other e = cc
+name_alone kinds.Ipv4 other e = cc
+name_alone kinds.Ipv6 other e = cc
+name_alone kinds.Name other e = other refl
+name_alone kinds.CharString other e = cc
+name_alone kinds.OptionalString other e = cc
+name_alone kinds.CharStrings other e = cc
+name_alone kinds.Tag other e = cc
+name_alone kinds.QuotedText other e = cc
+name_alone kinds.CountedBase16 other e = cc
+name_alone kinds.CountedBase32 other e = cc
+name_alone kinds.CountedBase64 other e = cc
+name_alone kinds.TypeBitmaps other e = cc
+name_alone kinds.OptionalTypeBitmaps other e = cc
+name_alone kinds.SvcParams other e = cc
+name_alone kinds.Base16 other e = cc
+name_alone kinds.Base64 other e = cc
+name_alone kinds.Octets other e = cc
 
 -- ---- nothing is after the end
 empty_range : (m : List ℕ) (p q : ℕ) → q ≤ p → slice_range m p q ≡ []

@@ -7,4 +7,4 @@ use Rattle.domain_any_rdata.proofs.read_back.AllRecordDataReadBackData.reads_bac
 pub returns : goal.returns
 returns c =
     data_read_back c.args.self.now
-    (subst (λ r. AreData (rdata_kinds r) (rdata_message r) (rdata_begin r)) c.rdata.ensures c.reads_again.ensures)
+    (subst (λ r. AreData (rdata_kinds r) (rdata_message r) (rdata_begin r)) c.rdata.ensures c.are_fields.ensures)

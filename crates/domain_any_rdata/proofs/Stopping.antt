@@ -6,7 +6,7 @@ use Rattle.domain_reading.specs.Grammar.{OctetAt, LabelAt, PointerAt, LabelRun, 
 use Rattle.domain_reading.specs.Grammar.Stop.{root as stop_root, pointer as stop_pointer}
 use Rattle.domain_descriptor.specs.Fields.{FormAt, FieldAt}
 use Rattle.domain_descriptor.specs.Forms.{form}
-use Rattle.domain_descriptor.specs.Stops.{stop_from, name_stop, stop, field_stop}
+use Rattle.domain_any_rdata.specs.Stops.{stop_from, name_stop, stop, field_stop}
 use Rattle.domain_descriptor.specs.declared.form.FieldForm.{FieldForm}
 use Rattle.domain_descriptor.specs.declared.form.FieldForm.TheVariants as forms
 use Rattle.domain_descriptor.specs.declared.kind.FieldKind.{FieldKind}

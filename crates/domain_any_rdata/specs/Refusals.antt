@@ -1,4 +1,4 @@
--- Faults of data as errors of parsing. The texts are those that the types' own readers have.
+-- Faults of data as errors of parsing. Where a type has a reader of its own, the texts are those of its errors.
 use Rattle.std.specs.Prelude.{codes}
 use Rattle.domain_wire.specs.Refusals.{Refusal, short_input, form}
 use Rattle.domain_reading.specs.Faults.{error_of}

@@ -1,14 +1,12 @@
--- There is one first error. Each error is a function of the octets (`block_reason`, `param_reason`), so that two are
--- equal; Exact.antt says that an error and a field exclude one another.
-use Rattle.std.proofs.Common.{◌≡◌, ◌∙◌, ◌⊎◌, ℕ, ◌+◌, ◌<◌, ◌≤◌, List, [], ◌∷◌, length, refl, sym, ap, subst, inl, inr, true, false, nat_lt, ◌||◌, if◌then◌else◌, arith}
-use Rattle.std.specs.Prelude.{slice_index}
-use Rattle.std.proofs.lemmas.Bool.Decides.{nat_tests}
+-- Octets that aren't data have one first error. That an error and a field exclude one another is in
+-- domain_descriptor/proofs/Exact.antt.
+use Rattle.std.specs.Prelude.{◌≡◌, ◌⊎◌, ℕ, ◌+◌, ◌<◌, ◌≤◌, List, [], ◌∷◌, length, slice_index}
+use Rattle.std.proofs.Common.{◌∙◌, sym, ap, subst, inl, inr, arith}
 use Rattle.domain_header.specs.Numbers.{number16}
 use Rattle.domain_reading.proofs.NameOrFault.{one_fault}
 use Rattle.domain_reading.specs.declared.fault.NameFault.{NameFault}
-use Rattle.domain_descriptor.proofs.Exact.{form_once, form_or_fault, fields_or_fault, block_or_fault, param_or_fault}
-use Rattle.domain_descriptor.proofs.Whole.{form_whole}
-use Rattle.domain_descriptor.specs.Fields.{BlockFault, BlocksFault, ParamFault, ParamsFault, SomeCountedFault, TagFault, NoNameAt, FormFault, FieldsFault, AreNoData}
+use Rattle.domain_descriptor.proofs.Exact.{form_once, form_or_fault, fields_or_fault}
+use Rattle.domain_descriptor.specs.Fields.{BlockAt, BlockFault, BlocksFault, ParamAt, ParamFault, ParamsFault, SomeCountedFault, TagFault, NoNameAt, FormFault, FieldsFault, AreNoData}
 use Rattle.domain_descriptor.specs.Fields.BlocksFault.{here as block_here, later as block_later}
 use Rattle.domain_descriptor.specs.Fields.ParamsFault.{here as param_here, later as param_later}
 use Rattle.domain_descriptor.specs.Forms.{form}
@@ -17,56 +15,39 @@ use Rattle.domain_descriptor.specs.declared.fault.DataFault.TheVariants as fault
 use Rattle.domain_descriptor.specs.declared.form.FieldForm.{FieldForm}
 use Rattle.domain_descriptor.specs.declared.form.FieldForm.TheVariants as forms
 use Rattle.domain_descriptor.specs.declared.kind.FieldKind.{FieldKind}
+use Rattle.domain_any_rdata.specs.Whole.{form_whole}
 
 -- ---- blocks
-abbrev block_reason : List ℕ → ℕ → ℕ → DataFault
-block_reason m p least =
-    if nat_lt (length m) (p + 2) then faults.ShortInput
-    else if nat_lt (slice_index m p) least then faults.WindowOrder
-    else if nat_lt (slice_index m (p + 1)) 1 || nat_lt 32 (slice_index m (p + 1)) then faults.BitmapLength
-    else faults.ShortInput
+bad_length : (n : ℕ) → 1 ≤ n → n ≤ 32 → (n < 1) ⊎ (32 < n) → ⊥
+bad_length n some few (inl none) = omega (arith, some, none)
+bad_length n some few (inr many) = omega (arith, few, many)
 
-bad_test : (n : ℕ) → (n < 1) ⊎ (32 < n) → (nat_lt n 1 || nat_lt 32 n) ≡ true
-bad_test n (inl none) = let few : nat_lt n 1 ≡ true = grind (arith, nat_tests) in rw few refl
-bad_test n (inr many) =
-    let some : nat_lt n 1 ≡ false = grind (arith, nat_tests) in
-    let long : nat_lt 32 n ≡ true = grind (arith, nat_tests) in
-    rw (some, long) refl
+block_or_fault : (m : List ℕ) (p least e : ℕ) (why : DataFault) → BlockAt m p least e → BlockFault m p least why → ⊥
+block_or_fault m p least e why a (inl b) = omega (arith, a.0, b.1)
+block_or_fault m p least e why a (inr (inl b)) = omega (arith, a.1, b.2)
+block_or_fault m p least e why a (inr (inr (inl b))) = bad_length (slice_index m (p + 1)) a.2 a.3 b.3
+block_or_fault m p least e why a (inr (inr (inr b))) = omega (arith, a.4, a.5, b.5)
 
-good_test : (n : ℕ) → 1 ≤ n → n ≤ 32 → (nat_lt n 1 || nat_lt 32 n) ≡ false
-good_test n some few =
-    let one : nat_lt n 1 ≡ false = grind (arith, nat_tests) in
-    let short : nat_lt 32 n ≡ false = grind (arith, nat_tests) in
-    rw (one, short) refl
-
-block_because : (m : List ℕ) (p least : ℕ) (why : DataFault) → BlockFault m p least why → why ≡ block_reason m p least
-block_because m p least why (inl a) =
-    let cut = a.1 in
-    let t : nat_lt (length m) (p + 2) ≡ true = grind (arith, nat_tests) in
-    rw t a.0
-block_because m p least why (inr (inl a)) =
-    let head = a.1 in
-    let low = a.2 in
-    let t : nat_lt (length m) (p + 2) ≡ false = grind (arith, nat_tests) in
-    let u : nat_lt (slice_index m p) least ≡ true = grind (arith, nat_tests) in
-    rw (t, u) a.0
-block_because m p least why (inr (inr (inl a))) =
-    let head = a.1 in
-    let order = a.2 in
-    let t : nat_lt (length m) (p + 2) ≡ false = grind (arith, nat_tests) in
-    let u : nat_lt (slice_index m p) least ≡ false = grind (arith, nat_tests) in
-    let v = bad_test (slice_index m (p + 1)) a.3 in
-    rw (t, u, v) a.0
-block_because m p least why (inr (inr (inr a))) =
-    let head = a.1 in
-    let order = a.2 in
-    let t : nat_lt (length m) (p + 2) ≡ false = grind (arith, nat_tests) in
-    let u : nat_lt (slice_index m p) least ≡ false = grind (arith, nat_tests) in
-    let v = good_test (slice_index m (p + 1)) a.3 a.4 in
-    rw (t, u, v) a.0
+block_once : (m : List ℕ) (p least : ℕ) (why other : DataFault) → BlockFault m p least why → BlockFault m p least other → why ≡ other
+block_once m p least why other (inl a) (inl b) = a.0 ∙ sym b.0
+block_once m p least why other (inl a) (inr (inl b)) = absurd (omega (arith, a.1, b.1))
+block_once m p least why other (inl a) (inr (inr (inl b))) = absurd (omega (arith, a.1, b.1))
+block_once m p least why other (inl a) (inr (inr (inr b))) = a.0 ∙ sym b.0
+block_once m p least why other (inr (inl a)) (inl b) = absurd (omega (arith, a.1, b.1))
+block_once m p least why other (inr (inl a)) (inr (inl b)) = a.0 ∙ sym b.0
+block_once m p least why other (inr (inl a)) (inr (inr (inl b))) = absurd (omega (arith, a.2, b.2))
+block_once m p least why other (inr (inl a)) (inr (inr (inr b))) = absurd (omega (arith, a.2, b.2))
+block_once m p least why other (inr (inr (inl a))) (inl b) = absurd (omega (arith, a.1, b.1))
+block_once m p least why other (inr (inr (inl a))) (inr (inl b)) = absurd (omega (arith, a.2, b.2))
+block_once m p least why other (inr (inr (inl a))) (inr (inr (inl b))) = a.0 ∙ sym b.0
+block_once m p least why other (inr (inr (inl a))) (inr (inr (inr b))) = absurd (bad_length (slice_index m (p + 1)) b.3 b.4 a.3)
+block_once m p least why other (inr (inr (inr a))) (inl b) = a.0 ∙ sym b.0
+block_once m p least why other (inr (inr (inr a))) (inr (inl b)) = absurd (omega (arith, a.2, b.2))
+block_once m p least why other (inr (inr (inr a))) (inr (inr (inl b))) = absurd (bad_length (slice_index m (p + 1)) a.3 a.4 b.3)
+block_once m p least why other (inr (inr (inr a))) (inr (inr (inr b))) = a.0 ∙ sym b.0
 
 blocks_once : (m : List ℕ) (p least : ℕ) (why other : DataFault) → BlocksFault m p least why → BlocksFault m p least other → why ≡ other
-blocks_once m p least why other (block_here inside a) (block_here also b) = block_because m p least why a ∙ sym (block_because m p least other b)
+blocks_once m p least why other (block_here inside a) (block_here also b) = block_once m p least why other a b
 blocks_once m p least why other (block_here inside a) (block_later at rest) = absurd (block_or_fault m p least _ why at a)
 blocks_once m p least why other (block_later at rest) (block_here inside b) = absurd (block_or_fault m p least _ other at b)
 blocks_once m p least why other (block_later at rest) (block_later too more) =
@@ -77,38 +58,32 @@ blocks_begin m p least why (block_here inside a) = inside
 blocks_begin m p least why (block_later at rest) = omega (arith, at.0)
 
 -- ---- parameters
-abbrev param_reason : List ℕ → ℕ → ℕ → DataFault
-param_reason m p least =
-    if nat_lt (length m) (p + 2) then faults.ShortInput
-    else if nat_lt (number16 m p) least then faults.KeyOrder
-    else faults.ShortInput
+param_or_fault : (m : List ℕ) (p least e : ℕ) (why : DataFault) → ParamAt m p least e → ParamFault m p least why → ⊥
+param_or_fault m p least e why a (inl b) = omega (arith, a.0, b.1)
+param_or_fault m p least e why a (inr (inl b)) = omega (arith, a.1, b.2)
+param_or_fault m p least e why a (inr (inr (inl b))) = omega (arith, a.0, b.3)
+param_or_fault m p least e why a (inr (inr (inr b))) = omega (arith, a.2, a.3, b.3)
 
-param_because : (m : List ℕ) (p least : ℕ) (why : DataFault) → ParamFault m p least why → why ≡ param_reason m p least
-param_because m p least why (inl a) =
-    let cut = a.1 in
-    let t : nat_lt (length m) (p + 2) ≡ true = grind (arith, nat_tests) in
-    rw t a.0
-param_because m p least why (inr (inl a)) =
-    let head = a.1 in
-    let low = a.2 in
-    let t : nat_lt (length m) (p + 2) ≡ false = grind (arith, nat_tests) in
-    let u : nat_lt (number16 m p) least ≡ true = grind (arith, nat_tests) in
-    rw (t, u) a.0
-param_because m p least why (inr (inr (inl a))) =
-    let head = a.1 in
-    let order = a.2 in
-    let t : nat_lt (length m) (p + 2) ≡ false = grind (arith, nat_tests) in
-    let u : nat_lt (number16 m p) least ≡ false = grind (arith, nat_tests) in
-    rw (t, u) a.0
-param_because m p least why (inr (inr (inr a))) =
-    let head = a.1 in
-    let order = a.2 in
-    let t : nat_lt (length m) (p + 2) ≡ false = grind (arith, nat_tests) in
-    let u : nat_lt (number16 m p) least ≡ false = grind (arith, nat_tests) in
-    rw (t, u) a.0
+param_once : (m : List ℕ) (p least : ℕ) (why other : DataFault) → ParamFault m p least why → ParamFault m p least other → why ≡ other
+param_once m p least why other (inl a) (inl b) = a.0 ∙ sym b.0
+param_once m p least why other (inl a) (inr (inl b)) = absurd (omega (arith, a.1, b.1))
+param_once m p least why other (inl a) (inr (inr (inl b))) = a.0 ∙ sym b.0
+param_once m p least why other (inl a) (inr (inr (inr b))) = a.0 ∙ sym b.0
+param_once m p least why other (inr (inl a)) (inl b) = absurd (omega (arith, a.1, b.1))
+param_once m p least why other (inr (inl a)) (inr (inl b)) = a.0 ∙ sym b.0
+param_once m p least why other (inr (inl a)) (inr (inr (inl b))) = absurd (omega (arith, a.2, b.2))
+param_once m p least why other (inr (inl a)) (inr (inr (inr b))) = absurd (omega (arith, a.2, b.2))
+param_once m p least why other (inr (inr (inl a))) (inl b) = a.0 ∙ sym b.0
+param_once m p least why other (inr (inr (inl a))) (inr (inl b)) = absurd (omega (arith, a.2, b.2))
+param_once m p least why other (inr (inr (inl a))) (inr (inr (inl b))) = a.0 ∙ sym b.0
+param_once m p least why other (inr (inr (inl a))) (inr (inr (inr b))) = a.0 ∙ sym b.0
+param_once m p least why other (inr (inr (inr a))) (inl b) = a.0 ∙ sym b.0
+param_once m p least why other (inr (inr (inr a))) (inr (inl b)) = absurd (omega (arith, a.2, b.2))
+param_once m p least why other (inr (inr (inr a))) (inr (inr (inl b))) = a.0 ∙ sym b.0
+param_once m p least why other (inr (inr (inr a))) (inr (inr (inr b))) = a.0 ∙ sym b.0
 
 params_once : (m : List ℕ) (p least : ℕ) (why other : DataFault) → ParamsFault m p least why → ParamsFault m p least other → why ≡ other
-params_once m p least why other (param_here inside a) (param_here also b) = param_because m p least why a ∙ sym (param_because m p least other b)
+params_once m p least why other (param_here inside a) (param_here also b) = param_once m p least why other a b
 params_once m p least why other (param_here inside a) (param_later at rest) = absurd (param_or_fault m p least _ why at a)
 params_once m p least why other (param_later at rest) (param_here inside b) = absurd (param_or_fault m p least _ other at b)
 params_once m p least why other (param_later at rest) (param_later too more) =
@@ -135,7 +110,7 @@ name_once m p faults.BitmapLength other a b = absurd a
 name_once m p faults.KeyOrder other a b = absurd a
 name_once m p faults.TrailingData other a b = absurd a
 
--- ---- fields
+-- ---- each form
 some_counted_once : (m : List ℕ) (p : ℕ) (why other : DataFault) → SomeCountedFault m p why → SomeCountedFault m p other → why ≡ other
 some_counted_once m p why other (inl a) (inl b) = a.0 ∙ sym b.0
 some_counted_once m p why other (inl a) (inr b) = absurd (omega (arith, a.1, b.1, b.2))
