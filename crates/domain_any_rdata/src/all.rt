@@ -110,6 +110,7 @@ impl<'m> ComposeRecordData for AllRecordData<'m> {
     ghost knows_len = { λ it c. not (c && compresses_names (data_type it))
         && nat_le (length (parts_octets false (data_parts it))) 65535 };
 
+    #[tactic(auto, using(crate::proofs::Forms::len_known, crate::proofs::Forms::no_left, crate::proofs::Forms::no_right))]
     fn rdlen(&self, compress: bool) -> Option<u16> {
         if compress && compresses_names(self.rdata.rtype()) {
             return None;
@@ -143,6 +144,7 @@ impl<'m> ComposeRecordData for AllRecordData<'m> {
 
 /// The names are known if the fields are.
 impl<'m> CanonicalRecordData for AllRecordData<'m> {
+    #[tactic(auto, using(crate::proofs::Forms::known_is))]
     fn knows_names(&self) -> bool {
         self.is_known() || !self.rtype().has_lowercase_names()
     }

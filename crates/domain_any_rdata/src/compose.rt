@@ -69,6 +69,7 @@ fn append_name<T: Composer>(
 }
 
 /// Appends a field: a name in this form, any other field as its octets. An error leaves the octets unchanged.
+#[tactic(auto, using(crate::proofs::Named::octets_part))]
 fn append_field<T: Composer>(
     field: &Field<'_>,
     how: NameForm,
@@ -92,6 +93,7 @@ fn append_field<T: Composer>(
 }
 
 /// Appends the fields, one after another, with names in this form. An error leaves the octets unchanged.
+#[tactic(auto, using(crate::proofs::Named::all_left, crate::proofs::Named::none_left, crate::proofs::Composed::still_start, crate::proofs::Composed::still_full, crate::proofs::Composed::still_some, crate::proofs::Composed::still_forgotten, crate::proofs::Composed::all_grown, crate::proofs::Composed::all_written))]
 pub(crate) fn compose_fields<T: Composer>(
     rdata: &Rdata<'_>,
     how: NameForm,

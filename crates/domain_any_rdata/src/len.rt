@@ -7,6 +7,7 @@ use domain_descriptor::{Field, Rdata};
 use domain_list::NameLabels;
 
 /// Returns the length of a field: for a name, that of its uncompressed encoding.
+#[tactic(auto, using(crate::proofs::Named::octets_part))]
 fn field_len(field: &Field<'_>) -> usize
     ensures { result ≡ length (part_octets false (part_of field.now)) }
 {
@@ -17,6 +18,7 @@ fn field_len(field: &Field<'_>) -> usize
 }
 
 /// Returns the length with no name compressed, or `None` if it exceeds 65,535.
+#[tactic(auto, using(crate::proofs::Named::all_left, crate::proofs::Named::none_left, crate::proofs::Lengths::too_many, crate::proofs::Lengths::all_counted))]
 pub(crate) fn uncompressed_len(rdata: &Rdata<'_>) -> Option<u16>
     ensures some { IfSome result (λ n. length (parts_octets false (rdata_parts rdata.now)) ≡ n) }
     ensures none { IsNone result

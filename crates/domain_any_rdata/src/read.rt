@@ -39,6 +39,7 @@ impl<'m> ParseAnyRecordData<'m> for AllRecordData<'m> {
 
     ghost fails_with = { NoInternetData };
 
+    #[tactic(auto, using(crate::proofs::Internet::data_there, crate::proofs::Internet::not_long))]
     fn parse_any_rdata(
         rtype: Rtype,
         parser: &mut Parser<'m>,
