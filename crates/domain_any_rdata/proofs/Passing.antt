@@ -35,7 +35,7 @@ ends ks m p none inside whole =
     omega (arith, inside, all)
   where
     not_less : (a b : ℕ) → ((a < b) → ⊥) → b ≤ a
-    not_less a b no = omega (arith, no)
+    not_less a b never = omega (arith, never)
 
 pub all_passed : (all : Rdata) (it : FieldIter) → Passed all it → kinds_left it ≡ [] → AreData (rdata_kinds all) (rdata_message all) (rdata_begin all)
 all_passed all it passed none =
