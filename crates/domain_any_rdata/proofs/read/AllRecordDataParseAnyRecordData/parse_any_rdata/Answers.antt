@@ -15,4 +15,4 @@ returns-in-Err-clause-err c =
     let there = subst (λ (x : List ℕ). AreNoData (known_fields t k) x c.pos.result c.in-Err.fault) c.as_slice.ensures c.in-Err.ensures.err in
     let here = subst (λ (x : ℕ). AreNoData (known_fields t k) m x c.in-Err.fault) c.pos.ensures.offset there in
     let few : length (left c.args.parser.now) ≤ 65535 = omega (arith, c.remaining.ensures, not_long c.check_len.result c.in_ok-check_len.field-0 c.remaining.result c.in_ok-check_len.was c.check_len.ensures) in
-    none_there t k m (position c.args.parser.now) c.in-Err.fault c.from.result c.from_int.ensures (omega (arith, c.pos.ensures.inside, c.pos.ensures.offset)) few here c.from.ensures
+    none_there t k m (position c.args.parser.now) c.in-Err.fault c.error_of_data.result c.from_int.ensures (omega (arith, c.pos.ensures.inside, c.pos.ensures.offset)) few here c.error_of_data.ensures
