@@ -78,11 +78,12 @@ impl<'a> SectionRrset<'a> {
     pub fn record_ttl(&self, octets: &[u8]) -> u32
         ensures { result ≡ record_ttl (section_view self.now) octets.now }
     {
-        if self.set.rtype != 46 {
-            return self.ttl;
+        let SectionRrset { set, ttl, .. } = *self;
+        if set.rtype != 46 {
+            return ttl;
         }
-        let lowest = lowest_covered(covered_type(octets), self.set.signature_ttls.as_slice());
-        lowest.unwrap_or(self.ttl)
+        let lowest = lowest_covered(covered_type(octets), set.signature_ttls.as_slice());
+        lowest.unwrap_or(ttl)
     }
 
     /// Returns the data of each record, in which names aren't compressed.

@@ -25,8 +25,8 @@ const BAD_VERSION: u8 = 16;
 
 /// Why a question of this type isn't answered, or `None` where it is.
 ///
-/// TKEY (RFC 2930, 4), IXFR, AXFR, MAILB and MAILA ask for what isn't done here: NOTIMP. No other meta type, nor 0, nor
-/// 65,535, is asked for (RFC 6895, 3.1): FORMERR.
+/// TKEY (RFC 2930, 4), IXFR, AXFR, MAILB and MAILA ask for what isn't done here: NOTIMP. No other meta type is asked
+/// for, nor 0, nor 65,535 (RFC 6895, 3.1): FORMERR.
 fn type_fault(qtype: u16) -> Option<u8>
     ensures { result ≡ type_code qtype }
 {
