@@ -104,16 +104,16 @@ asks_few c m q s begins may =
 
 asked_few : (c : Bool) (m u : List ℕ) → AskedIn c m u → length u ≤ 271
 asked_few c m _ (question q s begins may) = omega (arith, length-append blank_header s, asks_few c m q s begins may)
-asked_few c m _ (none no) = omega arith
+asked_few c m _ (none absent) = omega arith
 
 -- the question that was composed is the query's
 pub asked_in : (c : Bool) (m : List ℕ) (qs : List QuestionFields) (u : List ℕ) → RepeatsQuestion m qs → Composed (QuestionMay c) blank_header qs u → AskedIn c m u
 asked_in c m qs u (inl (q, begins, is)) all =
     let one : Composed (QuestionMay c) blank_header (q ∷ []) u = subst (λ l. Composed (QuestionMay c) blank_header l u) is all in
     subst (AskedIn c m) (sym one.2) (question q one.0 begins one.1.octets)
-asked_in c m qs u (inr (no, is)) all =
+asked_in c m qs u (inr (absent, is)) all =
     let bare : u ≡ blank_header = subst (λ l. Composed (QuestionMay c) blank_header l u) is all in
-    subst (AskedIn c m) (sym bare) (none no)
+    subst (AskedIn c m) (sym bare) (none absent)
 
 -- The OPT record has no room after the question.
 lacks_after : (c : Bool) (server : Server) (asked : Asked) (given : Option Opt) (o : Opt) (upper capacity room limit : ℕ) (octets m u : List ℕ) → TellsOpt m asked → given ≡ response_opt server.payload_size asked upper → given ≡ Some o → limit ≡ response_limit server asked
@@ -162,8 +162,8 @@ lacks_refusal c server asked given capacity room limit upper octets n m a same t
 
 -- A header was set, and then the OPT record was refused.
 pub lacks_bare : (c : Bool) (m : List ℕ) (given : Option Opt) (less more : ℕ) (h : Header) (a b : State) → b ≡ with_header h a → more ≡ less → HasNoQuestion m → (o : Opt) × (given ≡ Some o) × CannotAddOpt o more b → LacksEntryOf c m given less a
-lacks_bare c m given less more h a b is same no (o, some, why) =
-    opt_of o [] b more some (inr (no, refl)) (λ held. subst (λ s. Holds c s no_content) (sym is) held) (ap (λ (s : State). s.limit) is) (omega (arith, same)) why
+lacks_bare c m given less more h a b is same absent (o, some, why) =
+    opt_of o [] b more some (inr (absent, refl)) (λ held. subst (λ s. Holds c s no_content) (sym is) held) (ap (λ (s : State). s.limit) is) (omega (arith, same)) why
 
 -- Or the question was.
 pub lacks_question : (c : Bool) (m : List ℕ) (given : Option Opt) (less more : ℕ) (h : Header) (q : QuestionFields) (a b : State) → b ≡ with_header h a → more ≡ less → BeginsWithQuestion m q → CannotAsk c q b more → LacksEntryOf c m given less a

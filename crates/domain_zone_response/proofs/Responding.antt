@@ -171,6 +171,7 @@ puts_less c k cut all less more b a d le x = record {
 answered_by : (c : Bool) (z : Zone) (class limit capacity room more : ℕ) (query : Header) (m : List ℕ) (q : QuestionFields) (opt : Option Opt) (a b : State) (made : List ℕ)
     → header_id query ≡ number16 m 0 → header_high query ≡ slice_index m 2 → BeginsWith c limit (opt_len opt) a → capacity ≤ room → room ≤ more → (x : Answered c z class query q room a b) → EndsAnswer c false opt more b made
     → (h : Header) × (it : Content) × IsAnswered c z class limit capacity opt m q h it × IsMessageOf h (with_opt opt it) made
+unfolding puts_less
 answered_by c z class limit capacity room more query m q opt a b made id high begun le grows x (finished h same reads) =
     let it : Content = holding class (only_question q) x.puts.answer x.puts.authority x.puts.additional in
     let asked : Holds c x.asked (only_question q) = x.holds begun.holds in
