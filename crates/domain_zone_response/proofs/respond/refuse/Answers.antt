@@ -14,7 +14,7 @@ use Rattle.domain_zone_response.proofs.respond.refuse.Goals as goal
 pub returns-in_default-clause-ok : goal.returns-in_default-clause-ok
 returns-in_default-clause-ok g c =
     let said = subst (λ n. AnswersQuery (message_octets c.args.query.now) false false n c.response_header.result) c.masked_from_int.ensures
-    (by_query _ _ (message_octets c.args.query.now) _ _ _ c.header.ensures.id c.header.ensures.high c.response_header.ensures) in
+    (by_query c.header.result _ (message_octets c.args.query.now) _ _ _ c.header.ensures.id c.header.ensures.high c.response_header.ensures) in
     if_ok c.finish.result _ _ c.finish.ensures.ok
     (λ made x. refuses_bare _ _ _ _ c.response_header.result _ _ said (c.in_default.ensures.none refl)
     (subst (λ s. FinishesWith g.Target.Composer.compresses (opt_given c.args.opt) s (g.Target.Octets.octets made)) c.set_header.ensures.header x))
@@ -22,7 +22,7 @@ returns-in_default-clause-ok g c =
 pub returns-clause-ok : goal.returns-clause-ok
 returns-clause-ok g c =
     let said = subst (λ n. AnswersQuery (message_octets c.args.query.now) false false n c.response_header.result) c.masked_from_int.ensures
-    (by_query _ _ (message_octets c.args.query.now) _ _ _ c.header.ensures.id c.header.ensures.high c.response_header.ensures) in
+    (by_query c.header.result _ (message_octets c.args.query.now) _ _ _ c.header.ensures.id c.header.ensures.high c.response_header.ensures) in
     let first = c.in-Some.ensures.some in
     let pushed = subst (λ s. PushesQuestion g.Target.Composer.compresses (question_fields c.in-Some.question) s (state c.push_question.new.self)) c.set_header.ensures.header c.in_default-push_question.ensures.ok in
     if_ok c.finish-2.result _ _ c.finish-2.ensures.ok
