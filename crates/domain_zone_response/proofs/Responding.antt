@@ -10,11 +10,11 @@ use Rattle.domain_message.specs.Entries.{QuestionFields}
 use Rattle.domain_message.specs.declared.section.Section.{Section}
 use Rattle.domain_message.specs.declared.section.Section.TheVariants.{Answer, Authority, Additional}
 use Rattle.domain_message_builder.specs.Answers.{BeginsWithQuestion, HasNoQuestion}
-use Rattle.domain_message_builder.specs.Contents.{PushedRecord, Content, Composed, QuestionMay, RecordMay, Holds, blank_header, no_content}
+use Rattle.domain_message_builder.specs.Contents.{Content, QuestionMay, RecordMay, Holds, blank_header, no_content}
 use Rattle.domain_message_builder.specs.Cuts.{PushesOpt, CannotAddOpt, HasNoRoomFor, EndsAnswer, NotEnded, is_cut, with_opt, opt_record}
 use Rattle.domain_message_builder.specs.Cuts.EndsAnswer.{whole as finished, bare}
 use Rattle.domain_message_builder.specs.Cuts.NotEnded.{refused, no_room}
-use Rattle.domain_message_builder.specs.Ends.{MarksCut, KeepsOpt, KeepsOpts}
+use Rattle.domain_message_builder.specs.Ends.{KeepsOpt, KeepsOpts}
 use Rattle.domain_message_builder.specs.Ends.KeepsOpt.{beside, instead}
 use Rattle.domain_message_builder.specs.Finished.{EndsIn, finished_octets}
 use Rattle.domain_message_builder.specs.Opt.{Opt, opt_head}
@@ -30,7 +30,7 @@ use Rattle.domain_zone_laws.specs.Zone.{Zone, RRset}
 use Rattle.domain_message_builder.proofs.Composing.{composed_after}
 use Rattle.domain_zone_response.specs.Finishing.{StartsWith, FinishesWith, EndsWith, BeginsWith, RefusesBy, Answered}
 use Rattle.domain_zone_response.specs.Headers.{IsResponseHeader, RespondsTo}
-use Rattle.domain_zone_response.specs.Included.{cut_of, Kept, Keeps, LeftOut, Puts, holding}
+use Rattle.domain_zone_response.specs.Included.{cut_of, Kept, LeftOut, Puts, holding}
 use Rattle.domain_zone_response.specs.Included.Kept.{whole, no_answer, no_authority, no_glue}
 use Rattle.domain_zone_response.specs.Included.Keeps.{pushed, no_opt}
 use Rattle.domain_zone_response.specs.Edns.{response_limit, response_opt, opt_len}
