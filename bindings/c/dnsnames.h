@@ -7,9 +7,9 @@
  * Every call answers a status, and gives its results through pointers. A refused call, whose status is not
  * DNSNAMES_OK, leaves what the pointers lead to as it was; with DNSNAMES_NO_ROOM alone it tells in *length (and
  * dnsnames_read in its other results) what an answer has, and leaves the buffer; dnsnames_table keeps what it read
- * before, and texts of messages and records have their beginning there. Where an RRset is refused, what the buffer has
- * after the message, up to the limit, may be written over. No call allocates, keeps a pointer or has a state,
- * so each may be made from any thread and at any time.
+ * before, and texts of messages and records have their beginning there. Where an RRset is refused or has no room, what
+ * the buffer has after the message, up to the limit, may be written over. No call allocates, keeps a pointer or has a
+ * state, so each may be made from any thread and at any time.
  *
  * What is proved of each call is what it says here, for all octets and all lengths: which results it gives, when it
  * refuses and with which status, what it leaves, that it ends, and that it reads and writes within the lengths that it
@@ -612,8 +612,8 @@ dnsnames_status dnsnames_builder_extra(dnsnames_builder *builder, uint32_t secti
  * it was; its identifier, its flags and its limit stay as they are now. NO_BUILDER; NO_MARK where the mark isn't as the
  * calls leave a state, or has more octets than the message: nothing is changed.
  *
- * Once the message went back to an earlier mark, or was truncated, marks that were made later are void, and no call can
- * tell them from others.
+ * Void is a mark of another message, one that was made later than a mark that the message went back to, and one that was
+ * made before dnsnames_builder_truncate. No call can tell it from others: then the message can be one that no reader takes.
  *
  *     // An RRset and its signatures, both or none.
  *     dnsnames_builder_state mark = builder.state;

@@ -251,8 +251,8 @@ class MessageBuilder:
 
     def rewind(self, mark: Mark) -> None:
         """Takes away what was pushed after the mark. The identifier, the flags and the limit stay. The mark can be used
-        again. Raises ValueError for a mark of another message, and for one that was made after what is taken away, or
-        before `truncate`. Raises NoBuilder.
+        again. Raises ValueError for a mark of another message, for one that was made later than a mark that the message
+        went back to, and for one that was made before `truncate`. Raises NoBuilder.
 
         >>> answer = MessageBuilder(64)
         >>> mark = answer.mark()
@@ -309,9 +309,12 @@ class MessageBuilder:
         >>> Message(answer.finish()).header.is_truncated
         True
         """
-        self._call(library.dnsnames_builder_truncate)
         with self._lock:
-            self._marks.clear()
+            status = library.dnsnames_builder_truncate(byref(self._fields))
+            if not status:
+                self._marks.clear()
+        if status:
+            refuse(status)
 
     def finish(self) -> bytes:
         """Writes the header, and returns the message. It can be changed no more: then each call raises NoBuilder."""

@@ -73,9 +73,9 @@ pub extern "C" fn dnsnames_builder_rrset(
     }
 }
 
-/// Pushes an RRset that an answer can't do without, or sets TC where it has no room (RFC 2181, 9). These are the RRsets
-/// of the answer section, the name servers of a referral and those of their addresses that are glue (RFC 9471, 3).
-/// `pushed` becomes 1 if it was pushed, and 0 if it has no room: only TC is then set.
+/// Pushes an RRset that an answer can't do without, or sets TC where it has no room (RFC 2181, 9). These are the
+/// RRsets of the answer section, the name servers of a referral and those of their addresses that are glue (RFC 9471,
+/// 3). `pushed` becomes 1 if it was pushed, and 0 if it has no room: only TC is then set.
 ///
 /// Returns 23, 26, 9, 20, 24 and 25 as `dnsnames_builder_rrset` does. In each of these cases the message is unchanged.
 #[unsafe(no_mangle)]
@@ -108,8 +108,8 @@ pub extern "C" fn dnsnames_builder_required(
     }
 }
 
-/// Pushes an RRset that an answer can do without, or leaves it out where it has no room: TC isn't set for it (RFC 2181,
-/// 9). `pushed` becomes 1 if it was pushed, and 0 if it has no room: the message is then unchanged.
+/// Pushes an RRset that an answer can do without, or leaves it out where it has no room: TC isn't set for it (RFC
+/// 2181, 9). `pushed` becomes 1 if it was pushed, and 0 if it has no room: the message is then unchanged.
 ///
 /// Returns 23, 26, 9, 20, 24 and 25 as `dnsnames_builder_rrset` does. In each of these cases the message is unchanged.
 #[unsafe(no_mangle)]

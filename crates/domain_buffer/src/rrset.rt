@@ -78,9 +78,9 @@ fn push_each(
     Ok(())
 }
 
-/// Pushes the records of an RRset into a section, in the order of their data, or none of them. The data stand one after
-/// the other, and `lens` has how many octets each has. After a refusal the message is unchanged. Of no data, nothing
-/// is pushed, and nothing is refused.
+/// Pushes the records of an RRset into a section, in the order of their data, or none of them. The data stand one
+/// after the other, and `lens` has how many octets each has. After a refusal the message is unchanged. Of no data,
+/// nothing is pushed, and nothing is refused.
 pub fn push_rrset(
     octets: &mut [u8],
     builder: &mut Builder,
@@ -163,8 +163,8 @@ pub fn push_required(
     }
 }
 
-/// Pushes an RRset that an answer can do without, or leaves it out where it has no room: TC isn't set for it (RFC 2181,
-/// 9). Returns whether it was pushed.
+/// Pushes an RRset that an answer can do without, or leaves it out where it has no room: TC isn't set for it (RFC
+/// 2181, 9). Returns whether it was pushed.
 pub fn push_extra(
     octets: &mut [u8],
     builder: &mut Builder,
@@ -189,5 +189,9 @@ pub fn push_extra(
     let Err(fault) = push_rrset(octets, builder, section, owner, head, data, lens) else {
         return Ok(true);
     };
-    if is_for_room(fault) { Ok(false) } else { Err(fault) }
+    if is_for_room(fault) {
+        Ok(false)
+    } else {
+        Err(fault)
+    }
 }
