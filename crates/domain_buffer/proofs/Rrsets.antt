@@ -116,11 +116,11 @@ pushing_none section owner head lens whole o b u = record {
 
 pub pushing_more : (section : Section) (owner : List ℕ) (head : RecordHead) (datas : List (List ℕ)) (n : ℕ) (left rest item after o : List ℕ) (b : Builder) (m : List ℕ) (c : Builder) (o' : List ℕ) (b' : Builder)
     → Pushing section owner head datas (n ∷ left) rest o b m c → item ≡ take n rest → after ≡ drop n rest → PushesAny section owner head item m c o' b' → Pushing section owner head datas left after o b o' b'
-pushing_more section owner head datas n left rest item after o b m c o' b' so is then pushed =
+pushing_more section owner head datas n left rest item after o b m c o' b' so is left_is pushed =
     let one = subst (λ x. PushesAny section owner head x m c o' b') is pushed in
     let done = next_done (PushesOne section owner head) datas (take n rest) (pieces left (drop n rest)) (built o b) (built m c) (built o' b') so.progress one in
     record {
-      progress = subst (λ r. Progress (PushesOne section owner head) datas (pieces left r) (built o b) (built o' b')) (sym then) done;
+      progress = subst (λ r. Progress (PushesOne section owner head) datas (pieces left r) (built o b) (built o' b')) (sym left_is) done;
       leaves = leaves_more o b m c o' b' so.leaves (any_leaves section owner head item m c o' b' so.leaves.usable pushed);
     }
 

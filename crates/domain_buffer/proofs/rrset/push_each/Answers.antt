@@ -1,4 +1,4 @@
-use Rattle.std.proofs.Common.{◌≡◌, ◌+◌, ◌∷◌, length, get_or, drop, sym, ap, subst, subst₂, arith, add-one, drop-cons, length-drop}
+use Rattle.std.proofs.Common.{◌≡◌, ◌+◌, ◌∷◌, length, get_or, take, drop, sym, ap, subst, subst₂, arith, add-one, drop-cons, length-drop}
 use Rattle.std.proofs.Math.ListN.{drop_of_length-le}
 use Rattle.std.proofs.lemmas.List.Sums.{sum_by-drop_more}
 use Rattle.domain_buffer.specs.Builders.{headed_by, IsUsable}
@@ -17,15 +17,17 @@ loop-size-preserved c =
     let lens = c.args.lens.now in
     let i = c.loop-size.size-index in
     let n = get_or lens i 0 in
-    let rest = c.loop-size.rest in
+    let rest = c.loop-size.rest.now in
     let after = c.split_at.result.1.now in
     let head = headed_by c.args.owner.now c.args.head in
     let datas = pieces lens c.args.data.now in
     let cons : drop i lens ≡ n ∷ drop (i + 1) lens = rw add-one (drop-cons lens i 0 c.loop-size-test.true) in
     let so = subst (λ ls. Pushing c.args.section c.args.owner.now head datas ls rest c.args.octets.now c.args.builder.now c.loop-size.octets c.loop-size.builder) cons c.loop-size.invariant.so in
+    let front : c.split_at.result.0.now ≡ take n rest = subst (λ k. c.split_at.result.0.now ≡ take k rest) c.from.ensures c.split_at.ensures.front in
+    let back : after ≡ drop n rest = subst (λ k. after ≡ drop k rest) c.from.ensures c.split_at.ensures.back in
     record {
-      so = pushing_more c.args.section c.args.owner.now head datas n (drop (i + 1) lens) rest c.split_at.result.0.now after c.args.octets.now c.args.builder.now c.loop-size.octets c.loop-size.builder c.push_any.new.octets c.push_any.new.builder so c.split_at.ensures.front c.split_at.ensures.back c.in_default.ensures.ok;
-      left = omega (arith, sum_by-drop_more (λ x. x) lens i 0 c.loop-size-test.true, c.loop-size.invariant.left, ap length c.split_at.ensures.back, length-drop n rest);
+      so = pushing_more c.args.section c.args.owner.now head datas n (drop (i + 1) lens) rest c.split_at.result.0.now after c.args.octets.now c.args.builder.now c.loop-size.octets c.loop-size.builder c.push_any.new.octets c.push_any.new.builder so front back c.in_default.ensures.ok;
+      left = omega (arith, sum_by-drop_more (λ x. x) lens i 0 c.loop-size-test.true, c.loop-size.invariant.left, ap length back, length-drop n rest);
     }
 
 pub returns-in-Err-clause-err : goal.returns-in-Err-clause-err
@@ -33,12 +35,13 @@ returns-in-Err-clause-err c =
     let lens = c.args.lens.now in
     let i = c.loop-size.size-index in
     let n = get_or lens i 0 in
-    let rest = c.loop-size.rest in
+    let rest = c.loop-size.rest.now in
     let head = headed_by c.args.owner.now c.args.head in
     let datas = pieces lens c.args.data.now in
     let cons : drop i lens ≡ n ∷ drop (i + 1) lens = rw add-one (drop-cons lens i 0 c.loop-size-test.true) in
     let so = subst (λ ls. Pushing c.args.section c.args.owner.now head datas ls rest c.args.octets.now c.args.builder.now c.loop-size.octets c.loop-size.builder) cons c.loop-size.invariant.so in
-    pushing_refused c.args.section c.args.owner.now head datas n (drop (i + 1) lens) rest c.split_at.result.0.now c.args.octets.now c.args.builder.now c.loop-size.octets c.loop-size.builder c.in-Err.fault so c.split_at.ensures.front c.in-Err.ensures.err
+    let front : c.split_at.result.0.now ≡ take n rest = subst (λ k. c.split_at.result.0.now ≡ take k rest) c.from.ensures c.split_at.ensures.front in
+    pushing_refused c.args.section c.args.owner.now head datas n (drop (i + 1) lens) rest c.split_at.result.0.now c.args.octets.now c.args.builder.now c.loop-size.octets c.loop-size.builder c.in-Err.fault so front c.in-Err.ensures.err
 
 pub returns-in-Err-clause-usable : goal.returns-in-Err-clause-usable
 returns-in-Err-clause-usable c = subst₂ (λ o b. IsUsable o b) (sym c.in-Err.ensures.unchanged.0) (sym c.in-Err.ensures.unchanged.1) c.loop-size.invariant.so.leaves.usable
@@ -48,7 +51,7 @@ returns-in-Err-clause-same c = subst (λ o. SameMessage c.args.octets.now c.args
 
 pub returns-clause-ok : goal.returns-clause-ok
 returns-clause-ok c =
-    pushing_all c.args.section c.args.owner.now (headed_by c.args.owner.now c.args.head) (pieces c.args.lens.now c.args.data.now) (drop c.loop-size.size-index c.args.lens.now) c.loop-size.rest c.args.octets.now c.args.builder.now c.loop-size.octets c.loop-size.builder c.loop-size.invariant.so (drop_of_length-le _ c.loop-size-test.false)
+    pushing_all c.args.section c.args.owner.now (headed_by c.args.owner.now c.args.head) (pieces c.args.lens.now c.args.data.now) (drop c.loop-size.size-index c.args.lens.now) c.loop-size.rest.now c.args.octets.now c.args.builder.now c.loop-size.octets c.loop-size.builder c.loop-size.invariant.so (drop_of_length-le _ c.loop-size-test.false)
 
 pub returns-clause-usable : goal.returns-clause-usable
 returns-clause-usable c = c.loop-size.invariant.so.leaves.usable
