@@ -1,9 +1,9 @@
 -- What RRsets leave that are pushed, and what is cut back.
-use Rattle.std.proofs.Common.{◌≡◌, ℕ, ◌+◌, ◌≤◌, ◌/◌, ◌%◌, inl, inr, Bool, true, false, List, [], ◌∷◌, ◌++◌, length, take, drop, nat_eq, if◌then◌else◌, refl, sym, ap, subst, ◌∙◌, arith, append_assoc, take-take}
+use Rattle.std.proofs.Common.{◌≡◌, ℕ, ◌+◌, ◌≤◌, ◌/◌, ◌%◌, inl, inr, true, List, [], ◌∷◌, ◌++◌, length, take, drop, nat_eq, refl, sym, ap, subst, ◌∙◌, arith, append_assoc, take-take}
 use Rattle.std.proofs.lemmas.Bool.{cond_both, eqb-true, eqb-false}
 use Rattle.domain_header.specs.Bits.{SetsBits}
 use Rattle.domain_message.specs.declared.section.Section.{Section}
-use Rattle.domain_message_builder.specs.Contents.{RecordHead, PushedRecord, Content, Holds}
+use Rattle.domain_message_builder.specs.Contents.{RecordHead}
 use Rattle.domain_message_builder.specs.Ends.{MarksCut}
 use Rattle.domain_message_builder.specs.Pushes.{PushesRecord}
 use Rattle.domain_message_builder.specs.Rrsets.{InTurn, FirstRefused}
@@ -12,7 +12,7 @@ use Rattle.domain_message_builder.proofs.Sets.{Progress, progress_all, holds_set
 use Rattle.domain_buffer.specs.Puts.{PutsAt}
 use Rattle.domain_buffer.specs.Builders.{builder_state, header_of, octets_after_owner, IsUsable, Exactly}
 use Rattle.domain_buffer.specs.Named.{written_data, SameNames}
-use Rattle.domain_buffer.specs.Rrsets.{Built, built, pieces, PushesAny, PushesOne, RefusesOne, PushesEach, PushesSet, RefusesSet, SameData, SameMessage, HoldsSet, tc_set, marked_cut, SetsTc, back_at, IsMark, IsBackAt}
+use Rattle.domain_buffer.specs.Rrsets.{Built, built, pieces, PushesAny, PushesOne, RefusesOne, PushesEach, PushesSet, RefusesSet, SameData, SameMessage, tc_set, marked_cut, SetsTc, back_at, IsMark, IsBackAt}
 use Rattle.domain_buffer.specs.declared.builder.Builder.{Builder}
 use Rattle.domain_buffer.specs.declared.push.PushFault.{PushFault}
 use Rattle.domain_buffer.proofs.Puts.{puts_first, puts_size, puts_rest}

@@ -6,7 +6,7 @@ use Rattle.domain_message_builder.specs.Contents.{RecordHead, PushedRecord, Cont
 use Rattle.domain_message_builder.specs.Ends.{MarksCut}
 use Rattle.domain_message_builder.specs.Rrsets.{InTurn, FirstRefused, OneForEach, IsRecordOf, records_added}
 use Rattle.domain_message_builder.specs.SectionStarts.{IsInOrder}
-use Rattle.domain_buffer.specs.Builders.{builder_state, starts_of, table_of, IsUsable, PushesData}
+use Rattle.domain_buffer.specs.Builders.{builder_state, starts_of, table_of, PushesData}
 use Rattle.domain_buffer.specs.Data.{Fields, whole, IsNamed}
 use Rattle.domain_buffer.specs.Named.{SameNames, PushesNamed}
 use Rattle.domain_buffer.specs.Plans.{IsTable}
