@@ -83,7 +83,7 @@ one_more : {V S : Type 0} (Does : V → S → S → Type 0) (xs : List V) (x : V
 one_more Does [] x old mid new done does = (new, subst (λ s. Does x s new) done does, refl)
 one_more Does (y ∷ ys) x old mid new done does = (done.0, done.1, one_more Does ys x done.0 mid new done.2 does)
 
--- The next of those that are left was done.
+-- The next of the remaining ones was done.
 next_done : {V S : Type 0} (Does : V → S → S → Type 0) (all : List V) (x : V) (left : List V) (old mid new : S) → Progress Does all (x ∷ left) old mid → Does x mid new → Progress Does all left old new
 next_done Does all x left old mid new so does = record {
   before = so.before ++ x ∷ [];
@@ -103,7 +103,7 @@ next_refused Does Refuses all x left old mid so refused = record {
   refused = refused;
 }
 
--- How far the records were pushed: `left` has the lengths of the data that are left, which are `rest`.
+-- How far the records were pushed: `left` has the lengths of the remaining data, which are `rest`.
 pub record Pushing (section : Section) (owner : List ℕ) (head : RecordHead) (datas : List (List ℕ)) (left rest o : List ℕ) (b : Builder) (o' : List ℕ) (b' : Builder) : Type 0 where
   pub progress : Progress (PushesOne section owner head) datas (pieces left rest) (built o b) (built o' b')
   pub leaves : Leaves o b o' b'

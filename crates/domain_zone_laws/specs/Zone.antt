@@ -85,8 +85,8 @@ lower_covered t lowest it = if it.covered == t then Some (lower_ttl lowest it.tt
 abbrev pub lowest_covered : ℕ → List SignatureTtl → Option ℕ
 lowest_covered t its = fold (lower_covered t) None its
 
--- The TTL of the record of s with the data d: that of the RRset; of an RRSIG the lowest of those that cover the same
--- type, as it must match the TTL of the RRset that they cover (RFC 4034, 3).
+-- The TTL of the record of s with the data d: that of the RRset. Of an RRSIG it is the lowest of those that cover the
+-- same type, as it must match the TTL of the RRset that they cover (RFC 4034, 3).
 abbrev pub record_ttl : RRset → List ℕ → ℕ
 record_ttl s d = if s.rtype == RRSIG then unwrap_or (lowest_covered (covered_type d) s.signature_ttls) s.ttl else s.ttl
 
