@@ -44,9 +44,9 @@ fn section_for(
 /// stand one after the other, and `lens` has how many octets each has. Each record is written as by
 /// `dnsnames_builder_record`.
 ///
-/// Returns 23, 26 and 9 as that does, and 20 if the lengths don't make up the data. For the first record that is refused
-/// after those before it, it returns 24, 25 and 8 as that does. In each of these cases the message is unchanged: what the
-/// buffer has after it, up to the limit, may be written over.
+/// Returns 23, 26 and 9 as that does, and 20 if the lengths don't make up the data. For the first record that is
+/// refused after those before it, it returns 24, 25 and 8 as that does. In each of these cases the message is
+/// unchanged: what the buffer has after it, up to the limit, may be written over.
 #[unsafe(no_mangle)]
 pub extern "C" fn dnsnames_builder_rrset(
     octets: &mut [u8],
