@@ -43,8 +43,8 @@ GivesRrset number owner head rdatas lens status o b o' b' =
     × GivesSet section owner head (pieces lens rdatas) status o b o' b')
     ⊎ (RefusesAsked number owner rdatas lens o b status × (o' ≡ o) × (b' ≡ b))
 
--- The status is 0, and `pushed` says whether the RRset was pushed, which is done as this says. Or the first record that
--- was refused is the reason, for another reason than room, and the message is unchanged.
+-- The status is 0, and `pushed` says whether the RRset was pushed, which is done as this says. Or the first record
+-- that was refused is the reason, for another reason than room, and the message is unchanged.
 abbrev pub GivesChoice : (Done : Bool → Type 0) → Section → List ℕ → RecordHead → List (List ℕ) → ℕ → ℕ → ℕ → List ℕ → Builder → List ℕ → Builder → Type 0
 GivesChoice Done section owner head datas status old_pushed pushed o b o' b' =
     ((status ≡ 0) × (told : Bool) × (pushed ≡ bit_number told) × Done told × IsUsable o' b')
