@@ -5,10 +5,11 @@ ghost use Rattle.domain_message_builder.specs.Pushes.{asked};
 ghost use Rattle.domain_name.specs.Names.{name_labels};
 ghost use Rattle.domain_rdata.specs.Rtypes.{rtype_number};
 ghost use Rattle.domain_make.specs.Entries.{IsClassWord, IsTypeWord, begins_with_digit, first_column, AreStated, IsQuestionWords};
+ghost use Rattle.domain_make.specs.Opts.{opt_head};
 ghost use Rattle.domain_make.specs.Stops.{IfFault};
 ghost use Rattle.domain_make.specs.Faults.{NoClass, NoType, NoQuestionWords, NoStated, NoFittingRecord};
 ghost use Rattle.domain_make.specs.Refusals.{TellsPush};
-ghost use Rattle.domain_make.specs.Taking.{AreWordsOf, AddsQuestionOf, NoQuestionAdded, AddsRecordOf, NoRecordAdded};
+ghost use Rattle.domain_make.specs.Taking.{AreWordsOf, AddsQuestionOf, NoQuestionAdded, AddsRecordOf, NoRecordAdded, AddsOptOf, NoOptAdded};
 ghost use Rattle.domain_make.specs.Words.{word_at, words_at};
 
 use crate::data::data_of;
@@ -18,6 +19,7 @@ use crate::words::Word;
 use domain_header::{Class, Ttl};
 use domain_message::{Question, Record, Section, rtype_from_text};
 use domain_message_builder::{MessageBuilder, PushError};
+use domain_name::absolute::Name;
 use domain_rdata::{Composer, Rtype, UnknownRecordData};
 use octseq::Octets;
 use std::alloc::Global;
@@ -184,4 +186,25 @@ pub(crate) fn push_record<Target: Composer>(
         return Ok(());
     };
     Err(refused(e, first_column(words)))
+}
+
+/// Pushes an OPT record of this size, this TTL and these options into the additional section.
+pub(crate) fn push_opt<Target: Composer>(
+    size: u16,
+    ttl: u32,
+    options: Vec<u8>,
+    message: &mut MessageBuilder<Target>,
+) -> Result<(), Stop>
+    ensures ok { OnOk result (AddsOptOf (opt_head size ttl) options.items message.old message.new) }
+    ensures err { IfErr result (NoOptAdded (opt_head size ttl) options.items message.old) }
+{
+    let Ok(rdata) = UnknownRecordData::from_octets(Rtype::from_int(41), options) else {
+        return Err(Stop::Refused(Fault::Octets, 1));
+    };
+    let class = Class::from_int(size);
+    let resource = Record::new(Name::root_ref(), class, Ttl::from_secs(ttl), rdata);
+    let Err(e) = message.push(Section::Additional, &resource) else {
+        return Ok(());
+    };
+    Err(refused(e, 1))
 }
