@@ -4,9 +4,14 @@
 //! With `--hex` after any of them the message is in hexadecimal digits.
 #![tactic(auto)]
 
+mod engine;
+mod follow;
+mod hexadecimal;
+mod step;
+
+use crate::engine::run as walk;
 use domain_make::engine::run as make;
 use domain_tool::start::{Program, start};
-use domain_walk::engine::run as walk;
 use std::alloc::Global;
 use std::io::{Read, Write};
 use std::process::ExitCode;

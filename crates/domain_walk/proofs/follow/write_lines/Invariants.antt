@@ -1,4 +1,0 @@
-use Rattle.domain_walk.proofs.follow.write_lines.Given as goal
-
-abbrev pub ghosts-write_counted : goal.ghosts-write_counted
-ghosts-write_counted g a = record { name = a.blank.name; parts = a.blank.parts }
