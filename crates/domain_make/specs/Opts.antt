@@ -35,6 +35,11 @@ pub record ArePairs (text octets : List ℕ) : Type 0 where
   pub small : AreOctets octets
   pub text_is : text ≡ flat_map spaced_octet octets
 
+-- The text begins with a space and the two digits of an octet, and has this after them.
+pub record BeginsWithPair (text : List ℕ) (octet : ℕ) (rest : List ℕ) : Type 0 where
+  pub small : octet < 256
+  pub text_is : text ≡ spaced_octet octet ++ rest
+
 -- The text tells the bits that must be zero (6.1.4), if one of them isn't, and then the rest.
 pub data IsZeroText (text : List ℕ) (bits : ℕ) (rest : List ℕ) : Type 0 where
   none : BeginsOtherwise (codes "MBZ: 0x") text → bits ≡ 0 → rest ≡ text → IsZeroText text bits rest
@@ -62,14 +67,14 @@ pub record IsEdnsLine (text : List ℕ) (told : EdnsTold) : Type 0 where
   pub zero_is : IsZeroText from_zero told.zero (codes "udp: " ++ from_size)
   pub size_is : IsSizeText from_size told.size told.code
 
--- the upper eight bits of the response code, where one is told (6.1.3)
+-- the upper eight bits of the response code of twelve, where one is told (6.1.3)
 abbrev pub upper_of : Option ℕ → ℕ
 upper_of None = 0
-upper_of (Some code) = code / 16
+upper_of (Some code) = code / 16 % 256
 
 -- the TTL of the record: eight bits of the response code, eight of the version, DO, CO, and fourteen (6.1.3)
 abbrev pub edns_ttl : EdnsTold → ℕ
-edns_ttl told = upper_of told.code * 16777216 + told.version * 65536 + bit_of told.dnssec_ok * 32768 + bit_of told.compact_ok * 16384 + told.zero
+edns_ttl told = upper_of told.code * 16777216 + told.version * 65536 + bit_of told.dnssec_ok * 32768 + bit_of told.compact_ok * 16384 + told.zero % 16384
 
 -- The line tells a response code whose lower four bits aren't these of the header.
 abbrev pub IsOtherStatus : EdnsTold → ℕ → Type 0
@@ -96,15 +101,21 @@ pub record IsOptionLine (text octets : List ℕ) : Type 0 where
   pub short : length data_octets ≤ 65535
   pub octets_are : octets ≡ option_octets code data_octets
 
+-- These are so many octets, at least one, which end before an option does.
+pub record IsCut (octets : List ℕ) (count : ℕ) : Type 0 where
+  pub count_is : count ≡ length octets
+  pub some : 0 < length octets
+  pub ends : EndsInOption octets
+
 -- The line shows octets that end before an option does, in the form of RFC 3597, 5.
 pub record IsCutLine (text octets : List ℕ) : Type 0 where
   pub digits : List ℕ
   pub pairs : List ℕ
   pub text_is : text ≡ codes "; \\# " ++ (digits ++ (pairs ++ codes " ; unexpected end of input"))
-  pub count_is : IsNumberBelow 65536 digits (length octets)
+  pub count : ℕ
+  pub count_is : IsNumberBelow 65536 digits count
   pub pairs_are : ArePairs pairs octets
-  pub some : 0 < length octets
-  pub ends : EndsInOption octets
+  pub cut : IsCut octets count
 
 -- The text has this line first, and then the rest.
 pub record IsFirstLine (text line rest : List ℕ) : Type 0 where
@@ -122,10 +133,10 @@ pub record BeginsWithLine (Is : List ℕ → Type 0) (text rest : List ℕ) : Ty
 
 -- The text begins with lines of options, as many as there are, which say these octets: whole options, and last maybe
 -- octets that end before an option does.
-pub data AreOptionsAhead (text : List ℕ) : (octets : List ℕ) → Type 0 where
-  no_more : ((octets rest : List ℕ) → BeginsWithLine (λ line. IsOptionLine line octets ⊎ IsCutLine line octets) text rest → ⊥) → AreOptionsAhead text []
-  cut : {octets rest : List ℕ} → BeginsWithLine (λ line. IsCutLine line octets) text rest → AreOptionsAhead text octets
-  option : {first rest more : List ℕ} → BeginsWithLine (λ line. IsOptionLine line first) text rest → AreOptionsAhead rest more → AreOptionsAhead text (first ++ more)
+pub data AreOptionsAhead : (text octets : List ℕ) → Type 0 where
+  no_more : {text : List ℕ} → ((octets rest : List ℕ) → BeginsWithLine (λ line. IsOptionLine line octets ⊎ IsCutLine line octets) text rest → ⊥) → AreOptionsAhead text []
+  cut : {text octets rest : List ℕ} → BeginsWithLine (λ line. IsCutLine line octets) text rest → AreOptionsAhead text octets
+  option : {text first rest more : List ℕ} → BeginsWithLine (λ line. IsOptionLine line first) text rest → AreOptionsAhead rest more → AreOptionsAhead text (first ++ more)
 
 -- What a line says was appended to octets of options: an option, or nothing where it shows none.
 abbrev pub AddsOption : List ℕ → List ℕ → List ℕ → Bool → Type 0

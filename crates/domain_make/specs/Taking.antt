@@ -18,7 +18,7 @@ use Rattle.domain_message_builder.specs.declared.builder.MessageBuilder.{Message
 use Rattle.domain_header.specs.Bits.{bits}
 use Rattle.domain_header.specs.Headers.{header_low}
 use Rattle.domain_make.specs.Opts.{AreOptionsAhead, IsCutLine, IsOptionLine, IsOtherStatus, edns_head}
-use Rattle.domain_make.specs.Remarks.{IsTrimmed}
+use Rattle.domain_make.specs.Remarks.{IsTrimmed, settled}
 use Rattle.domain_make.specs.Stops.{IfFault}
 use Rattle.domain_make.specs.Words.{WordAt}
 use Rattle.domain_make.specs.declared.error.Fault.TheVariants as fault
@@ -74,10 +74,20 @@ abbrev pub TakesEntryLine : {T E : Type 0} {g : _} {h : _} {i : _} {j : _} {k : 
     → List ℕ → Stage → MessageBuilder T E g h i j k l → MessageBuilder T E g h i j k l → Type 0
 TakesEntryLine line stage old new = TakesLine line stage old stage new
 
+-- The line says a record of the section, where records of it are.
+abbrev pub TakesRecordLine : {T E : Type 0} {g : _} {h : _} {i : _} {j : _} {k : _} {l : _}
+    → List ℕ → Section → MessageBuilder T E g h i j k l → MessageBuilder T E g h i j k l → Type 0
+TakesRecordLine line section old new = (stage : Stage) → settled stage ≡ Records section → TakesLine line stage old (Records section) new
+
 -- Why the line isn't taken after what the builder holds, if it isn't memory that lacks.
 abbrev pub LineNotTaken : {T E : Type 0} {g : _} {h : _} {i : _} {j : _} {k : _} {l : _}
     → List ℕ → Stage → MessageBuilder T E g h i j k l → Stop → Type 0
 LineNotTaken {g = g} line stage b e = IfFault e (λ f c. (ahead : List ℕ) → RefusesLine g.compresses line ahead stage (state b) f c)
+
+-- The same of a line where records of this section are.
+abbrev pub RecordNotTaken : {T E : Type 0} {g : _} {h : _} {i : _} {j : _} {k : _} {l : _}
+    → List ℕ → Section → MessageBuilder T E g h i j k l → Stop → Type 0
+RecordNotTaken line section b e = (stage : Stage) → settled stage ≡ Records section → LineNotTaken line stage b e
 
 -- The same where these lines are below it.
 abbrev pub NotTakenThere : {T E : Type 0} {g : _} {h : _} {i : _} {j : _} {k : _} {l : _}

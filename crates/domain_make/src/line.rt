@@ -6,7 +6,8 @@ ghost use Rattle.domain_make.specs.Made.{IfLine, IsOfText};
 ghost use Rattle.domain_make.specs.Opts.{AreOptionsAhead, IsOtherStatus, edns_head};
 ghost use Rattle.domain_make.specs.Refusals.{IsNoOpt, IsOutside};
 ghost use Rattle.domain_make.specs.Remarks.{IsTrimmed, settled};
-ghost use Rattle.domain_make.specs.Taking.{TakesLine, TakesThere, TakesEntryLine, LineNotTaken, NotTakenThere, TakesLines, LinesNotTaken};
+ghost use Rattle.domain_make.specs.Taking.{TakesLine, TakesThere, TakesEntryLine, TakesRecordLine, LineNotTaken, RecordNotTaken};
+ghost use Rattle.domain_make.specs.Taking.{NotTakenThere, TakesLines, LinesNotTaken};
 ghost use Rattle.domain_make.specs.Taking.{AddsOptOf, OptNotTaken, LeadsBelow, IsNoOptionLine, builder_rcode};
 ghost use Rattle.domain_make.specs.Words.{AreWords, words_at};
 ghost use Rattle.domain_make.specs.declared.error.Stop.{Stop};
@@ -151,9 +152,8 @@ fn take_record<Target: Composer>(
     requires begins { slice_index line.now 0 ≢ 59 }
     requires words { AreWords line.now 0 (words_at words.now) }
     requires some { 0 < length words.now }
-    ensures ok { OnOk result (TakesEntryLine line.now (Stage.Records section)
-        message.old message.new) }
-    ensures err { IfErr result (LineNotTaken line.now (Stage.Records section) message.old) }
+    ensures ok { OnOk result (TakesRecordLine line.now section message.old message.new) }
+    ensures err { IfErr result (RecordNotTaken line.now section message.old) }
 {
     push_record(alloc, section, line, words, message)
 }
@@ -163,7 +163,7 @@ fn is_outside(stage: Stage) -> bool
     ensures { IsTrue result ↔ IsOutside stage }
 {
     match stage {
-        Stage::Questions | Stage::Records(_) => false,
+        Stage::Questions | Stage::Records(_) | Stage::Options => false,
         _ => true,
     }
 }
@@ -176,7 +176,8 @@ fn take_entry<Target: Composer>(
     message: &mut MessageBuilder<Target>,
 ) -> Result<(), Stop>
     requires { slice_index line.now 0 ≢ 59 }
-    ensures ok { OnOk result (TakesEntryLine line.now stage message.old message.new) }
+    ensures ok { OnOk result
+        (TakesLine line.now stage message.old (settled stage) message.new) }
     ensures err { IfErr result (LineNotTaken line.now stage message.old) }
 {
     let found = found_words(alloc, line, 0)?;
@@ -188,7 +189,7 @@ fn take_entry<Target: Composer>(
     if is_outside(stage) {
         return Err(Stop::Refused(Fault::Outside, words[0].column));
     }
-    if let Stage::Records(section) = stage {
+    if let Stage::Records(section) = settled(stage) {
         return take_record(alloc, section, words, line, message);
     }
     take_question(alloc, words, line, message)
@@ -239,9 +240,8 @@ fn take_line<Target: Composer>(
     if line.len() > 0 && line[0] == b';' {
         return take_marked(alloc, line, ahead, stage, message);
     }
-    let stage = settled(stage);
     match take_entry(alloc, line, stage, message) {
-        Ok(()) => Ok(stage),
+        Ok(()) => Ok(settled(stage)),
         Err(stop) => Err(stop),
     }
 }

@@ -1,10 +1,11 @@
 //! The lines of an OPT record (RFC 6891, 6.1).
-ghost use Rattle.std.specs.Prelude.{◌≡◌, ◌++◌, ℕ, Option, List, IfOk, IfErr, IfSome, IsNone, OnOk, OnErr, IsTrue, ◌↔◌};
+ghost use Rattle.std.specs.Prelude.{◌≡◌, ◌++◌, ℕ, Option, List, IfOk, IfErr, IfSome, IsNone, OnOk, OnErr, IsTrue, ◌↔◌, ◌<◌, ◌≤◌, length};
 ghost use Rattle.domain_header.specs.Values.{rcode_number};
-ghost use Rattle.domain_message.specs.Options.{EndsInOption};
-ghost use Rattle.domain_make.specs.Opts.{IsHexDigit, IsHexOctet, ArePairs, IsStatusText, IsZeroText, IsSizeText, IsEdnsLine, IsOtherStatus, IsOptionLine, IsCutLine};
-ghost use Rattle.domain_make.specs.Opts.{AreOptionsAhead, IsFirstLine, edns_ttl, AddsLine, AddsOption, AddsCut, IsLineOf};
+ghost use Rattle.domain_header.specs.Numbers.{number16};
+ghost use Rattle.domain_make.specs.Opts.{IsHexDigit, IsHexOctet, ArePairs, BeginsWithPair, IsStatusText, IsZeroText, IsSizeText, IsEdnsLine, IsOtherStatus, IsCut};
+ghost use Rattle.domain_make.specs.Opts.{AreOptionsAhead, IsFirstLine, edns_ttl, upper_of, AddsLine, AddsOption, AddsCut, IsLineOf};
 ghost use Rattle.domain_make.specs.Parts.{IsNumberBelow};
+ghost use Rattle.domain_make.specs.Remarks.{FindsRest};
 ghost use Rattle.domain_make.specs.Stops.{IfFault, Tells};
 ghost use Rattle.domain_make.specs.declared.error.Fault.TheVariants as fault;
 ghost use Rattle.domain_make.specs.declared.error.Stop.{Stop};
@@ -12,6 +13,7 @@ ghost use Rattle.domain_make.specs.declared.opt.EdnsTold.{EdnsTold};
 
 use crate::error::{Fault, Stop};
 use crate::remark::{after, flag, parted, trimmed};
+use crate::words::octets_from;
 use domain_header::Rcode;
 use domain_tool::offset_of_word;
 use std::alloc::Global;
@@ -36,6 +38,27 @@ impl EdnsTold {
         self.size
     }
 
+    /// Whether the line tells a response code whose lower four bits aren't this one of the header.
+    fn has_other_status(&self, rcode: Rcode) -> bool
+        ensures { IsTrue result ↔ IsOtherStatus self.now (rcode_number rcode) }
+    {
+        match self.code {
+            None => false,
+            Some(code) => code % 16 != u16::from(rcode.to_int()),
+        }
+    }
+
+    /// The upper eight bits of the response code.
+    fn upper(&self) -> u16
+        ensures upper { result ≡ upper_of self.now.code }
+        ensures small { result < 256 }
+    {
+        match self.code {
+            None => 0,
+            Some(code) => code / 16 % 256,
+        }
+    }
+
     /// The TTL that the line tells where the header has this response code, whose four bits are the lower ones of the
     /// code (6.1.3).
     ///
@@ -46,19 +69,12 @@ impl EdnsTold {
         ensures err { IfErr result (λ e. IfFault e (Tells fault.Status 1)) }
         ensures other { IfErr result (λ _. IsOtherStatus self.now (rcode_number rcode)) }
     {
-        let upper = match self.code {
-            None => 0,
-            Some(code) => {
-                if code % 16 != u16::from(rcode.to_int()) {
-                    return Err(Stop::Refused(Fault::Status, 1));
-                }
-                code / 16 % 0x100
-            }
-        };
-        let dnssec_ok = if self.dnssec_ok { 0x8000 } else { 0 };
-        let compact_ok = if self.compact_ok { 0x4000 } else { 0 };
-        let flags = dnssec_ok + compact_ok + u32::from(self.zero % 0x4000);
-        Ok(u32::from(upper) * 0x100_0000 + u32::from(self.version) * 0x1_0000 + flags)
+        if self.has_other_status(rcode) {
+            return Err(Stop::Refused(Fault::Status, 1));
+        }
+        let codes = u32::from(self.upper()) * 0x100_0000 + u32::from(self.version) * 0x1_0000;
+        let flags = u32::from(self.dnssec_ok) * 0x8000 + u32::from(self.compact_ok) * 0x4000;
+        Ok(codes + flags + u32::from(self.zero % 0x4000))
     }
 }
 
@@ -96,7 +112,10 @@ fn hex_octet(high: u8, low: u8) -> Option<u8>
     ensures some { IfSome result (λ octet. IsHexOctet high low octet) }
     ensures none { IsNone result → (octet : ℕ) → IsHexOctet high low octet → ⊥ }
 {
-    let (Some(high), Some(low)) = (hex_value(high), hex_value(low)) else {
+    let Some(high) = hex_value(high) else {
+        return None;
+    };
+    let Some(low) = hex_value(low) else {
         return None;
     };
     Some(high * 16 + low)
@@ -107,19 +126,22 @@ fn status_of(text: &[u8]) -> Option<u16>
     ensures some { IfSome result (λ code. IsStatusText text.now code) }
     ensures none { IsNone result → (code : ℕ) → IsStatusText text.now code → ⊥ }
 {
-    if text == b"BADVERS" {
+    if text == b"BADVERS".as_slice() {
         return Some(16);
     }
-    if text == b"BADCOOKIE" {
+    if text == b"BADCOOKIE".as_slice() {
         return Some(23);
     }
     let Some(digits) = after(b"RCODE", text) else {
         return None;
     };
-    match number_below(4096, digits) {
-        Some(code) if code >= 16 => Some(code as u16),
-        _ => None,
+    let Some(code) = number_below(4096, digits) else {
+        return None;
+    };
+    if code < 16 {
+        return None;
     }
+    Some(code as u16)
 }
 
 /// The bits that must be zero, which a text begins with where one of them isn't: `MBZ: 0x0001, `. And what follows.
@@ -130,10 +152,16 @@ fn zero_of(text: &[u8]) -> Option<(u16, &[u8])>
     let Some(rest) = after(b"MBZ: 0x", text) else {
         return Some((0, text));
     };
-    let [a, b, c, d, b',', b' ', rest @ ..] = rest else {
+    let [a, b, c, d, rest @ ..] = rest else {
         return None;
     };
-    let (Some(high), Some(low)) = (hex_octet(*a, *b), hex_octet(*c, *d)) else {
+    let Some(high) = hex_octet(*a, *b) else {
+        return None;
+    };
+    let Some(low) = hex_octet(*c, *d) else {
+        return None;
+    };
+    let Some(rest) = after(b", ", rest) else {
         return None;
     };
     if high >= 0x40 {
@@ -147,21 +175,22 @@ fn size_of(text: &[u8]) -> Option<(u16, Option<u16>)>
     ensures some { IfSome result (λ it. IsSizeText text.now it.0 it.1) }
     ensures none { IsNone result → (n : ℕ) (code : Option ℕ) → IsSizeText text.now n code → ⊥ }
 {
-    match parted(text, b',') {
-        None => match number_below(65536, text) {
+    let Some((digits, rest)) = parted(text, b',') else {
+        return match number_below(65536, text) {
             Some(size) => Some((size as u16, None)),
             None => None,
-        },
-        Some((digits, rest)) => {
-            let Some(status) = after(b" status: ", rest) else {
-                return None;
-            };
-            match (number_below(65536, digits), status_of(status)) {
-                (Some(size), Some(code)) => Some((size as u16, Some(code))),
-                _ => None,
-            }
-        }
-    }
+        };
+    };
+    let Some(status) = after(b" status: ", rest) else {
+        return None;
+    };
+    let Some(size) = number_below(65536, digits) else {
+        return None;
+    };
+    let Some(code) = status_of(status) else {
+        return None;
+    };
+    Some((size as u16, Some(code)))
 }
 
 /// What the first line of an OPT record tells: `; EDNS: version: 0, flags: do; udp: 1232`. `None` of another line.
@@ -205,29 +234,6 @@ pub(crate) fn edns_of(text: &[u8]) -> Option<EdnsTold>
     })
 }
 
-/// The octets that a text is, a space and two digits for each; `None` where it isn't such a text.
-fn pairs_of(alloc: Global, text: &[u8]) -> Result<Option<Vec<u8>>, Stop>
-    ensures some { IfOk result (λ it. IfSome it (λ octets. ArePairs text.now octets.items)) }
-    ensures none { IfOk result (λ it. IsNone it → (octets : List ℕ) → ArePairs text.now octets → ⊥) }
-    ensures err { IfErr result (λ e. e ≡ Stop.Memory) }
-{
-    let mut octets = Vec::new(alloc);
-    let mut rest = text;
-    while !rest.is_empty() {
-        let [b' ', high, low, following @ ..] = rest else {
-            return Ok(None);
-        };
-        let Some(octet) = hex_octet(*high, *low) else {
-            return Ok(None);
-        };
-        if let Err(_) = octets.push(octet) {
-            return Err(Stop::Memory);
-        }
-        rest = following;
-    }
-    Ok(Some(octets))
-}
-
 /// Octets after others.
 fn append(octets: &mut Vec<u8>, more: &[u8]) -> Result<(), Stop>
     ensures ok { OnOk result (octets.new.items ≡ octets.old.items ++ more.now) }
@@ -237,6 +243,41 @@ fn append(octets: &mut Vec<u8>, more: &[u8]) -> Result<(), Stop>
         Ok(()) => Ok(()),
         Err(_) => Err(Stop::Memory),
     }
+}
+
+/// The octet that a text begins with, a space and two digits, and what follows it.
+fn pair_of(text: &[u8]) -> Option<(u8, &[u8])>
+    ensures some { IfSome result (λ it. BeginsWithPair text.now it.0 it.1.now) }
+    ensures none { IsNone result → (octet : ℕ) (rest : List ℕ) → BeginsWithPair text.now octet rest → ⊥ }
+{
+    let [space, high, low, rest @ ..] = text else {
+        return None;
+    };
+    if *space != b' ' {
+        return None;
+    }
+    let Some(octet) = hex_octet(*high, *low) else {
+        return None;
+    };
+    Some((octet, rest))
+}
+
+/// The octets that a text is, a space and two digits for each; `None` where it isn't such a text.
+fn pairs_of(alloc: Global, text: &[u8]) -> Result<Option<Vec<u8>>, Stop>
+    ensures some { IfOk result (λ it. IfSome it (λ octets. ArePairs text.now octets.items)) }
+    ensures none { IfOk result (λ it. IsNone it → (octets : List ℕ) → ArePairs text.now octets → ⊥) }
+    ensures err { IfErr result (λ e. e ≡ Stop.Memory) }
+{
+    let mut octets = Vec::new(alloc);
+    let mut rest = text;
+    while rest.len() > 0 {
+        let Some((octet, following)) = pair_of(rest) else {
+            return Ok(None);
+        };
+        append(&mut octets, &[octet])?;
+        rest = following;
+    }
+    Ok(Some(octets))
 }
 
 /// Appends the option that a line is, in octets: `; OPT=10: 01 02`. Returns whether the line is one.
@@ -259,21 +300,38 @@ fn push_option(alloc: Global, text: &[u8], options: &mut Vec<u8>) -> Result<bool
     if octets.len() > 65535 {
         return Ok(false);
     }
-    let [a, b] = (code as u16).to_be_bytes();
-    let [c, d] = (octets.len() as u16).to_be_bytes();
-    append(options, &[a, b, c, d])?;
+    append(options, &(code as u16).to_be_bytes())?;
+    append(options, &(octets.len() as u16).to_be_bytes())?;
     append(options, octets.as_slice())?;
     Ok(true)
 }
 
-/// Whether octets end before an option does.
-fn ends_in_option(octets: &[u8]) -> bool
-    ensures { IsTrue result ↔ EndsInOption octets.now }
+/// How many octets of data an option has that octets begin with.
+fn data_len(octets: &[u8]) -> usize
+    requires { 4 ≤ length octets.now }
+    ensures { result ≡ number16 octets.now 2 }
 {
-    match octets {
-        [_, _, c, d, rest @ ..] => rest.len() < usize::from(u16::from_be_bytes([*c, *d])),
-        _ => true,
+    usize::from(u16::from_be_bytes([octets[2], octets[3]]))
+}
+
+/// Whether these are so many octets, at least one, which end before an option does.
+fn is_cut(octets: &[u8], count: u32) -> bool
+    ensures { IsTrue result ↔ IsCut octets.now count }
+{
+    if octets.is_empty() || octets.len() != count as usize {
+        return false;
     }
+    if octets.len() < 4 {
+        return true;
+    }
+    octets.len() < 4 + data_len(octets)
+}
+
+/// What a text has before this end.
+fn before<'a>(end: &[u8], text: &'a [u8]) -> Option<&'a [u8]>
+    ensures { FindsRest (λ front. text.now ≡ front ++ end.now) result }
+{
+    text.strip_suffix(end)
 }
 
 /// Appends the octets that a line shows because they end before an option does: `; \# 3 00 01 02 ; unexpected end of
@@ -285,19 +343,19 @@ fn push_cut(alloc: Global, text: &[u8], options: &mut Vec<u8>) -> Result<bool, S
     let Some(rest) = after(b"; \\# ", text) else {
         return Ok(false);
     };
-    let Some(rest) = rest.strip_suffix(b" ; unexpected end of input") else {
+    let Some(rest) = before(b" ; unexpected end of input", rest) else {
         return Ok(false);
     };
     let Some((digits, _)) = parted(rest, b' ') else {
         return Ok(false);
     };
-    let Some(octets) = pairs_of(alloc, &rest[digits.len()..])? else {
-        return Ok(false);
-    };
     let Some(count) = number_below(65536, digits) else {
         return Ok(false);
     };
-    if octets.is_empty() || octets.len() != count as usize || !ends_in_option(octets.as_slice()) {
+    let Some(octets) = pairs_of(alloc, octets_from(rest, digits.len()))? else {
+        return Ok(false);
+    };
+    if !is_cut(octets.as_slice(), count) {
         return Ok(false);
     }
     append(options, octets.as_slice())?;
@@ -359,7 +417,7 @@ pub(crate) fn options_ahead(alloc: Global, ahead: &[u8]) -> Result<Vec<u8>, Stop
 {
     let mut options = Vec::new(alloc);
     let mut rest = ahead;
-    while !rest.is_empty() {
+    while rest.len() > 0 {
         let (line, following) = first_line(rest);
         match push_line(alloc, trimmed(line), &mut options)? {
             OptionLine::Whole => rest = following,
