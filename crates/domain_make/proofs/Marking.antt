@@ -165,7 +165,7 @@ begins_heading h text (inl e) = ([], e ∙ sym (append-nil h))
 begins_heading h text (inr e) = (codes ":", e)
 
 -- Lines that begin with words that differ aren't one.
-two_kinds : (a b text x y : List ℕ) → differ a b ≡ true → text ≡ a ++ x → text ≡ b ++ y → ⊥
+pub two_kinds : (a b text x y : List ℕ) → differ a b ≡ true → text ≡ a ++ x → text ≡ b ++ y → ⊥
 two_kinds a b text x y d e f = apart a b x y d (sym e ∙ f)
 
 two_headings : (a b text : List ℕ) → differ a b ≡ true → IsWithColon a text → IsWithColon b text → ⊥
