@@ -182,6 +182,12 @@ long_record : (comp : Bool) (section : Section) (l : List ℕ) (words : List Wor
 long_record comp section l words s f c (inl lack) = no_record lack
 long_record comp section l words s f c (inr big) = record_stopped_by big.head big.octets big.record_is (long big.long big.told.0) big.told.1
 
+-- An OPT record that wasn't pushed.
+pub opt_stopped : {E : Type 0} (comp : Bool) (section : Section) (head : RecordHead) (octets : List ℕ) (s : State) (capacity : ℕ) (e : PushError E) (stop : Stop) → RecordRefused comp section head (λ _ t. t ≡ octets) s capacity e
+    → IfFault stop (λ f c. TellsPush e f × (c ≡ 1)) → IfFault stop (λ f c. RecordStops comp section head octets s f × (c ≡ 1))
+opt_stopped comp section head octets s capacity e stop why h =
+    if_refused (λ f c. TellsPush e f × (c ≡ 1)) (λ f c. RecordStops comp section head octets s f × (c ≡ 1)) stop (λ f c told. (why_record comp section head octets s capacity e f why told.0, told.1)) h
+
 pub record_refused : (comp : Bool) (section : Section) (l : List ℕ) (words : List WordAt) (s : State) (e : Stop) → IfFault e (NoFittingRecord l words) → IfFault e (NoPushedRecord comp section l words s)
 record_refused comp section l words s e h = if_refused (NoFittingRecord l words) (NoPushedRecord comp section l words s) e (λ f c lack. long_record comp section l words s f c lack) h
 

@@ -239,19 +239,33 @@ read_all text (x ∷ t) octets few before = absurd (omega arith)
 
 -- ---- bits that must be zero
 
+first_digit : (high low : ℕ) → high < 64 → low < 256 → (high * 256 + low) / 4096 % 16 ≡ high / 16
+first_digit high low few small = omega arith
+
+second_digit : (high low : ℕ) → low < 256 → (high * 256 + low) / 256 % 16 ≡ high % 16
+second_digit high low small = omega arith
+
+third_digit : (high low : ℕ) → low < 256 → (high * 256 + low) / 16 % 16 ≡ low / 16
+third_digit high low small = omega arith
+
+last_digit : (high low : ℕ) → (high * 256 + low) % 16 ≡ low % 16
+last_digit high low = omega arith
+
+bits_small : (high low : ℕ) → high < 64 → low < 256 → high * 256 + low < 16384
+bits_small high low few small = omega arith
+
 pub zero_is : (text rest after : List ℕ) (high low : ℕ) → text ≡ codes "MBZ: 0x" ++ rest → 4 ≤ length rest → IsHexOctet (get_or rest 0 0) (get_or rest 1 0) high → IsHexOctet (get_or rest 2 0) (get_or rest 3 0) low → left 4 rest ≡ codes ", " ++ after → high < 64
     → IsZeroText text (high * 256 + low) after
 zero_is text rest after high low is long x y ends few =
     let n : ℕ = high * 256 + low in
-    let s : low < 256 = y.small in
-    let a : n / 4096 % 16 ≡ high / 16 = omega arith in
-    let b : n / 256 % 16 ≡ high % 16 = omega arith in
-    let c : n / 16 % 16 ≡ low / 16 = omega arith in
-    let d : n % 16 ≡ low % 16 = omega arith in
+    let a : n / 4096 % 16 ≡ high / 16 = first_digit high low few y.small in
+    let b : n / 256 % 16 ≡ high % 16 = second_digit high low y.small in
+    let c : n / 16 % 16 ≡ low / 16 = third_digit high low y.small in
+    let d : n % 16 ≡ low % 16 = last_digit high low in
     let digits : rest ≡ four_digits n ++ (codes ", " ++ after) =
     four_first rest long ∙ same_four (get_or rest 0 0) (get_or rest 1 0) (get_or rest 2 0) (get_or rest 3 0) (hex_digit (n / 4096 % 16)) (hex_digit (n / 256 % 16)) (hex_digit (n / 16 % 16)) (hex_digit (n % 16)) (left 4 rest) (codes ", " ++ after)
     (x.high_is ∙ ap (λ k. hex_digit k) (sym a)) (x.low_is ∙ ap (λ k. hex_digit k) (sym b)) (y.high_is ∙ ap (λ k. hex_digit k) (sym c)) (y.low_is ∙ ap (λ k. hex_digit k) (sym d)) ends in
-    some (omega arith) (follows text (codes "MBZ: 0x") rest (four_digits n ++ (codes ", " ++ after)) is digits)
+    some (bits_small high low few y.small) (follows text (codes "MBZ: 0x") rest (four_digits n ++ (codes ", " ++ after)) is digits)
 
 -- What a text has where such bits are after its beginning.
 pub record ZeroParts (rest : List ℕ) (n : ℕ) (after : List ℕ) : Type 0 where
