@@ -26,6 +26,7 @@ use Rattle.domain_header.specs.Headers.{header_low}
 use Rattle.domain_header.specs.declared.flags.Header.{Header}
 use Rattle.domain_make.specs.Opts.{AreOptionsAhead, IsCutLine, IsEdnsLine, IsOptionLine, IsOtherStatus, edns_head}
 use Rattle.domain_make.specs.Remarks.{BeginsAsOpt, IsTrimmed, Remarks, settled}
+use Rattle.domain_make.specs.Taking.{IsNoEdnsLine, IsNoOptionLine}
 use Rattle.domain_make.specs.Words.{WordAt, word_at, words_at, AreWords}
 use Rattle.domain_make.specs.declared.error.Fault.{Fault}
 use Rattle.domain_make.specs.declared.error.Fault.TheVariants as fault
@@ -53,6 +54,9 @@ outside_records Told section out e = cc
 outside_records Questions section out e = out
 outside_records (Records other) section out e = out
 outside_records Options section out e = out
+
+tail_of : (x y : ℕ) (a b : List ℕ) → x ∷ a ≡ y ∷ b → a ≡ b
+tail_of x y a b e = cc
 
 first_kept : (end : ℕ) (l : List ℕ) (x : ℕ) (rest : List ℕ) → take end l ≡ x ∷ rest → slice_index l 0 ≡ x
 first_kept zero l x rest e = cc
@@ -220,6 +224,59 @@ refuses_opt comp l ahead text stage s told f c place cut edns (at_one, inl other
     no_room (room_status text told (ap settled is.stage_is ∙ place) cut edns (subst (λ (h : Header). IsOtherStatus told (bits 1 16 (header_low h))) (sym is.header_is) other.0) other.1 at_one)
 refuses_opt comp l ahead text stage s told f c place cut edns (at_one, inr stops) = λ d is.
     no_room (room_opt text told stops.0 (ap settled is.stage_is ∙ place) cut edns (subst (λ (h : Header). IsOtherStatus told (bits 1 16 (header_low h)) → ⊥) (sym is.header_is) stops.1) stops.2 (record_stops comp stage Additional s d (edns_head told) stops.0 f is stops.3) at_one)
+
+-- ---- what a line isn't, at its stage
+
+second_kept : (end : ℕ) (l : List ℕ) (x y : ℕ) (rest : List ℕ) → take end l ≡ x ∷ y ∷ rest → slice_index l 1 ≡ y
+second_kept zero l x y rest e = cc
+second_kept (suc n) [] x y rest e = cc
+second_kept (suc n) (z ∷ l) x y rest e = first_kept n l y rest (tail_of z x (take n l) (y ∷ rest) e)
+
+spaced : (l text rest : List ℕ) → IsAsked l → IsTrimmed l text → text ≡ 59 ∷ 32 ∷ rest → ⊥
+spaced l text rest asked cut e = asked.no_space (second_kept cut.end l 59 32 rest (sym cut.text_is ∙ e))
+
+-- A question is no line of an OPT record.
+pub asked_no_opt : (l text : List ℕ) (stage : Stage) → IsAsked l → IsTrimmed l text → IsNoOpt text stage
+asked_no_opt l text stage asked cut = record {
+  no_edns = λ at told is. spaced l text _ asked cut is.text_is;
+  no_option = λ at octets is. spaced l text _ asked cut is.text_is;
+  no_cut = λ at octets is. spaced l text _ asked cut is.text_is;
+}
+
+-- Elsewhere than in the additional section there is none.
+pub elsewhere_no_opt : (text : List ℕ) (stage : Stage) → (settled stage ≡ Records Additional → ⊥) → IsNoOpt text stage
+elsewhere_no_opt text stage never = record {
+  no_edns = λ at told is. never at;
+  no_option = λ at octets is. never (ap settled at);
+  no_cut = λ at octets is. never (ap settled at);
+}
+
+-- There is none right below one, where this is neither a first line nor one of options.
+pub below_no_opt : (l text : List ℕ) → IsNoEdnsLine l → IsNoOptionLine l → IsTrimmed l text → IsNoOpt text Options
+below_no_opt l text no_first no_line cut = record {
+  no_edns = λ at. no_first text cut;
+  no_option = λ at octets is. no_line text octets cut (inl is);
+  no_cut = λ at octets is. no_line text octets cut (inr is);
+}
+
+-- Nor among records of the section, where this is no first line.
+pub among_no_opt : (l text : List ℕ) (stage : Stage) → IsNoEdnsLine l → (stage ≡ Options → ⊥) → IsTrimmed l text → IsNoOpt text stage
+among_no_opt l text stage no_first never cut = record {
+  no_edns = λ at. no_first text cut;
+  no_option = λ at octets is. never at;
+  no_cut = λ at octets is. never at;
+}
+
+-- What a text isn't, no text of its line is.
+pub no_first_line : (l text : List ℕ) → IsTrimmed l text → ((told : EdnsTold) → IsEdnsLine text told → ⊥) → IsNoEdnsLine l
+no_first_line l text cut never other also told is = never told (subst (λ t. IsEdnsLine t told) (trimmed_once l other text also cut) is)
+
+pub no_option_line : (l text : List ℕ) → IsTrimmed l text → ((octets : List ℕ) → IsOptionLine text octets ⊎ IsCutLine text octets → ⊥) → IsNoOptionLine l
+no_option_line l text cut never other octets also is = never octets (subst (λ t. IsOptionLine t octets ⊎ IsCutLine t octets) (trimmed_once l other text also cut) is)
+
+-- A line that begins with a semicolon is a remark where no questions are, or where it is none.
+pub remark_there : (l : List ℕ) (stage : Stage) (section : Section) → slice_index l 0 ≡ 59 → settled stage ≡ Records section → IsRemark l stage
+remark_there l stage section begins place = record { begins = begins; other = λ at _. two_stages stage section at place }
 
 -- ---- a text whose lines all say something
 

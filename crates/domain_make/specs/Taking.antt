@@ -17,7 +17,7 @@ use Rattle.domain_message_builder.specs.Pushes.{headed, PushesQuestion, PushesRe
 use Rattle.domain_message_builder.specs.declared.builder.MessageBuilder.{MessageBuilder}
 use Rattle.domain_header.specs.Bits.{bits}
 use Rattle.domain_header.specs.Headers.{header_low}
-use Rattle.domain_make.specs.Opts.{AreOptionsAhead, IsCutLine, IsOptionLine, IsOtherStatus, edns_head}
+use Rattle.domain_make.specs.Opts.{AreOptionsAhead, IsCutLine, IsEdnsLine, IsOptionLine, IsOtherStatus, edns_head}
 use Rattle.domain_make.specs.Remarks.{IsTrimmed, settled}
 use Rattle.domain_make.specs.Stops.{IfFault}
 use Rattle.domain_make.specs.Words.{WordAt}
@@ -123,6 +123,10 @@ pub data LeadsBelow (line : List ℕ) : (next : Stage) → Type 0 where
 -- It is none of them.
 abbrev pub IsNoOptionLine : List ℕ → Type 0
 IsNoOptionLine line = (text octets : List ℕ) → IsTrimmed line text → IsOptionLine text octets ⊎ IsCutLine text octets → ⊥
+
+-- The line is no first line of an OPT record.
+abbrev pub IsNoEdnsLine : List ℕ → Type 0
+IsNoEdnsLine line = (text : List ℕ) → IsTrimmed line text → (told : EdnsTold) → IsEdnsLine text told → ⊥
 
 -- A builder that held nothing holds what the lines of a text say.
 abbrev pub TakesLines : {T E : Type 0} {g : _} {h : _} {i : _} {j : _} {k : _} {l : _}

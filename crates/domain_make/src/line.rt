@@ -8,7 +8,7 @@ ghost use Rattle.domain_make.specs.Refusals.{IsNoOpt, IsOutside};
 ghost use Rattle.domain_make.specs.Remarks.{IsTrimmed, settled};
 ghost use Rattle.domain_make.specs.Taking.{TakesLine, TakesThere, TakesEntryLine, TakesRecordLine, LineNotTaken, RecordNotTaken};
 ghost use Rattle.domain_make.specs.Taking.{NotTakenThere, TakesLines, LinesNotTaken};
-ghost use Rattle.domain_make.specs.Taking.{AddsOptOf, OptNotTaken, LeadsBelow, IsNoOptionLine, builder_rcode};
+ghost use Rattle.domain_make.specs.Taking.{AddsOptOf, OptNotTaken, LeadsBelow, IsNoOptionLine, IsNoEdnsLine, builder_rcode};
 ghost use Rattle.domain_make.specs.Words.{AreWords, words_at};
 ghost use Rattle.domain_make.specs.declared.error.Stop.{Stop};
 ghost use Rattle.domain_make.specs.declared.remark.Stage.{Stage};
@@ -85,6 +85,24 @@ fn take_option(alloc: Global, line: &[u8]) -> Result<Option<Stage>, Stop>
     }
 }
 
+/// Takes a line that begins with a semicolon, right below those of an OPT record.
+fn take_below<Target: Composer>(
+    alloc: Global,
+    line: &[u8],
+    message: &mut MessageBuilder<Target>,
+) -> Result<Stage, Stop>
+    requires begins { slice_index line.now 0 ≡ 59 }
+    requires no_edns { IsNoEdnsLine line.now }
+    ensures ok { IfOk result
+        (λ next. TakesLine line.now Stage.Options message.old next message.new) }
+    ensures err { IfErr result (LineNotTaken line.now Stage.Options message.old) }
+{
+    match take_option(alloc, line)? {
+        Some(next) => Ok(next),
+        None => take_remark(alloc, line, Stage::Options, message),
+    }
+}
+
 /// Takes a line that begins with a semicolon, in the additional section.
 fn take_additional<Target: Composer>(
     alloc: Global,
@@ -103,9 +121,7 @@ fn take_additional<Target: Composer>(
         return take_opt(alloc, told, ahead, message);
     }
     if let Stage::Options = stage {
-        if let Some(next) = take_option(alloc, line)? {
-            return Ok(next);
-        }
+        return take_below(alloc, line, message);
     }
     take_remark(alloc, line, stage, message)
 }
@@ -195,6 +211,19 @@ fn take_entry<Target: Composer>(
     take_question(alloc, words, line, message)
 }
 
+/// Whether records of the additional section may be there.
+fn in_additional(stage: Stage) -> bool
+    ensures { IsTrue result ↔ (settled stage ≡ Stage.Records Section.Additional) }
+{
+    let Stage::Records(section) = settled(stage) else {
+        return false;
+    };
+    match section {
+        Section::Additional => true,
+        _ => false,
+    }
+}
+
 /// Takes a line that begins with a semicolon, and returns where in a message the next one is.
 fn take_marked<Target: Composer>(
     alloc: Global,
@@ -217,12 +246,10 @@ fn take_marked<Target: Composer>(
         }
         return take_remark(alloc, line, stage, message);
     }
-    match settled(stage) {
-        Stage::Records(Section::Additional) => {
-            take_additional(alloc, line, ahead, stage, message)
-        }
-        _ => take_remark(alloc, line, stage, message),
+    if in_additional(stage) {
+        return take_additional(alloc, line, ahead, stage, message);
     }
+    take_remark(alloc, line, stage, message)
 }
 
 /// Takes a line, and returns where in a message the next one is.
