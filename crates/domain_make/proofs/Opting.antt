@@ -165,6 +165,10 @@ pair_once t x y r s a b =
     let q = pair_parts t y s b in
     (octet_once (get_or t 1 0) (get_or t 2 0) x y p.hex q.hex, p.rest_is ∙ sym q.rest_is)
 
+-- What is left is shorter.
+pub shorter : (t : List ℕ) (x : ℕ) (rest : List ℕ) → BeginsWithPair t x rest → length rest < length t
+shorter t x rest is = omega (arith, ap length is.text_is)
+
 octets_more : (x : ℕ) (os : List ℕ) → x < 256 → AreOctets os → AreOctets (x ∷ os)
 octets_more x os small all zero inside = small
 octets_more x os small all (suc k) inside = all k (omega arith)
@@ -562,6 +566,10 @@ first_once t l r k s a b = elim a.text_is [
     | inr f ↦ sym e.0 ∙ f.0
   ]
 ]
+
+-- What follows a line is shorter.
+pub fewer : (t l r : List ℕ) → 0 < length t → IsFirstLine t l r → length r < length t
+fewer t l r longer is = elim is.text_is [ inl e ↦ omega (arith, ap length e, length-append l (10 ∷ r)) | inr e ↦ omega (arith, ap length e.1) ]
 
 -- Lines of options that were read, before what is left of a text.
 abbrev pub OptionsRead : List ℕ → List ℕ → List ℕ → Type 0

@@ -1,0 +1,28 @@
+use Rattle.std.proofs.Common.{arith, refl}
+use Rattle.domain_make.proofs.Opting.{no_option_word, no_option_colon, no_option_code, no_option_pairs, no_long_option, option_is, append_three}
+use Rattle.domain_make.proofs.opt.push_option.Goals as goal
+
+pub returns-in_default-clause-ok : goal.returns-in_default-clause-ok
+returns-in_default-clause-ok c = (λ octets. no_option_word _ octets c.in_default.ensures, refl)
+
+pub returns-in_default-parted-clause-ok : goal.returns-in_default-parted-clause-ok
+returns-in_default-parted-clause-ok c = (λ octets. no_option_colon _ _ octets c.in-Some.ensures (c.in_default-parted.ensures.none refl), refl)
+
+pub returns-in_default-number_below-clause-ok : goal.returns-in_default-number_below-clause-ok
+returns-in_default-number_below-clause-ok c =
+    (λ octets. no_option_code _ _ _ _ octets c.in-Some.ensures c.in-Some-parted.ensures.some c.in-Some-parted.ensures.first (c.in_default-number_below.ensures.none refl), refl)
+
+pub returns-in_default-pairs_of-clause-ok : goal.returns-in_default-pairs_of-clause-ok
+returns-in_default-pairs_of-clause-ok c =
+    (λ octets. no_option_pairs _ _ _ _ octets c.in-Some.ensures c.in-Some-parted.ensures.some c.in-Some-parted.ensures.first (c.in_default-pairs_of.ensures.none refl), refl)
+
+pub returns-then-octets-gt65535-clause-ok : goal.returns-then-octets-gt65535-clause-ok
+returns-then-octets-gt65535-clause-ok c =
+    (λ octets. no_long_option _ _ _ _ _ octets c.in-Some.ensures c.in-Some-parted.ensures.some c.in-Some-parted.ensures.first c.in-Some-pairs_of.ensures.some (omega arith), refl)
+
+pub returns-clause-ok : goal.returns-clause-ok
+returns-clause-ok c = (
+  _,
+  option_is _ _ _ _ _ _ c.in-Some.ensures c.in-Some-parted.ensures.some c.in-Some-number_below.ensures.some c.in-Some-pairs_of.ensures.some (omega arith),
+  append_three _ _ _ _ _ _ _ c.in_ok-append.ensures.ok c.in_ok-append-2.ensures.ok c.in_ok-append-3.ensures.ok,
+)
