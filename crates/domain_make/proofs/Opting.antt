@@ -205,8 +205,6 @@ pairs_once t [] [] a b = refl
 pairs_once t [] (y ∷ ps) a b = absurd (omega (arith, ap length (sym a.text_is ∙ b.text_is)))
 pairs_once t (x ∷ os) [] a b = absurd (omega (arith, ap length (sym a.text_is ∙ b.text_is)))
 pairs_once t (x ∷ os) (y ∷ ps) a b =
-    let longer : 0 < length t = omega (arith, ap length a.text_is) in
-    let p = pairs_first t (x ∷ os) longer a in
     let begins : BeginsWithPair t x (flat_map spaced_octet os) = record { small = a.small 0 (omega arith); text_is = a.text_is } in
     let also : BeginsWithPair t y (flat_map spaced_octet ps) = record { small = b.small 0 (omega arith); text_is = b.text_is } in
     let same = pair_once t x y (flat_map spaced_octet os) (flat_map spaced_octet ps) begins also in
