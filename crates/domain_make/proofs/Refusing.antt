@@ -218,7 +218,7 @@ refuses_record comp l stage section words s f c place plain are some (lack_recor
 -- An OPT record whose response code is another one than the header's, or that isn't pushed.
 pub refuses_opt : (comp : Bool) (l ahead text : List ℕ) (stage : Stage) (s : State) (told : EdnsTold) (f : Fault) (c : ℕ) → settled stage ≡ Records Additional → IsTrimmed l text → IsEdnsLine text told
     → (c ≡ 1) × ((IsOtherStatus told (bits 1 16 (header_low s.header)) × (f ≡ fault.Status))
-      ⊎ ((octets : List ℕ) × (IsOtherStatus told (bits 1 16 (header_low s.header)) → ⊥) × AreOptionsAhead ahead octets × RecordStops comp Additional (edns_head told) octets s f))
+    ⊎ ((octets : List ℕ) × (IsOtherStatus told (bits 1 16 (header_low s.header)) → ⊥) × AreOptionsAhead ahead octets × RecordStops comp Additional (edns_head told) octets s f))
     → RefusesLine comp l ahead stage s f c
 refuses_opt comp l ahead text stage s told f c place cut edns (at_one, inl other) = λ d is.
     no_room (room_status text told (ap settled is.stage_is ∙ place) cut edns (subst (λ (h : Header). IsOtherStatus told (bits 1 16 (header_low h))) (sym is.header_is) other.0) other.1 at_one)

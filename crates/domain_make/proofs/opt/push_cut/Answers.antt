@@ -21,9 +21,11 @@ returns-in_default-pairs_of-clause-ok c =
     (λ octets. no_cut_pairs _ _ _ _ _ _ octets c.in-Some.ensures c.in-Some-before.ensures c.in-Some-parted.ensures.some c.in-Some-parted.ensures.first c.octets_from.ensures (c.in_default-pairs_of.ensures.none refl), refl)
 
 pub returns-then-not-is_cut-clause-ok : goal.returns-then-not-is_cut-clause-ok
-returns-then-not-is_cut-clause-ok c =
-    (λ octets. no_cut _ _ _ _ _ _ _ octets _ c.in-Some.ensures c.in-Some-before.ensures c.in-Some-parted.ensures.some c.in-Some-parted.ensures.first c.octets_from.ensures c.in-Some-number_below.ensures.some c.in-Some-pairs_of.ensures.some
-     (λ is. false≢true (sym c.if-not-is_cut.true ∙ c.is_cut.ensures.1 is)), refl)
+returns-then-not-is_cut-clause-ok c = (
+  λ octets. no_cut _ _ _ _ _ _ _ octets _ c.in-Some.ensures c.in-Some-before.ensures c.in-Some-parted.ensures.some c.in-Some-parted.ensures.first c.octets_from.ensures c.in-Some-number_below.ensures.some c.in-Some-pairs_of.ensures.some
+      (λ is. false≢true (sym c.if-not-is_cut.true ∙ c.is_cut.ensures.1 is)),
+  refl,
+)
 
 pub returns-clause-ok : goal.returns-clause-ok
 returns-clause-ok c = (
