@@ -229,7 +229,7 @@ def field_rows():
                 row(rtype, " ".join(words[:place] + [wrong] + words[place + 1:]))
         for wrong in WRONG:
             row(rtype, f"{text} {wrong}")
-        # Of two words that are none the first is told.
+        # Of two words that are none the first is reported.
         row(rtype, " ".join(['"'] * len(words)))
         row(rtype, " ".join(["\x80"] * len(words)))
         row(rtype, "  ".join(["x"] * len(words)))

@@ -1,5 +1,5 @@
-"""A second writer of responses, from RFC 1034 (4.3.2), 1035 (4.1), 2181 (9), 3225, 4035 (3.1.6), 6891, 6895 (3.1) and
-9471. The sections are those of the second reader of zones; here they become octets."""
+"""A second writer of responses, from RFC 1034 (4.3.2), 1035 (4.1), 2181 (9), 2930 (4), 3225, 4035 (3.1.6), 6891, 6895
+(3.1) and 9471. The sections are those of the second reader of zones; here they become octets."""
 
 import pathlib
 import struct
@@ -131,7 +131,7 @@ def refusal(query):
     _, rtype, rclass = query.questions[0]
     if rclass != 1:
         return REFUSED
-    if 251 <= rtype <= 254:
+    if rtype == 249 or 251 <= rtype <= 254:
         return NOTIMP
     if rtype in (0, zones.OPT, 65535) or 128 <= rtype <= 250:
         return FORMERR
@@ -200,6 +200,6 @@ def response(zone, octets, stream, size):
         ttl = code >> 4 << 24 | (edns[2] & 0x8000 if edns else 0)
         writer.octets += b"\0" + struct.pack(">HHIH", zones.OPT, own, ttl, 0)
         counts[2] += 1
-    flags = 0x8000 | query.flags & 0x7910 | aa << 10 | cut << 9 | code & 15
+    flags = 0x8000 | query.flags & 0x7900 | aa << 10 | cut << 9 | code & 15
     writer.octets[:12] = struct.pack(">HHHHHH", query.id, flags, asked, *counts)
     return bytes(writer.octets)

@@ -1,0 +1,11 @@
+pub mod Moving
+pub mod Stopping
+pub mod Named
+pub mod Naming
+pub mod Composed
+pub mod Lengths
+pub mod Forms
+pub mod Back
+pub mod ReadingBack
+pub mod Passing
+pub mod Internet

@@ -1,0 +1,9 @@
+pub mod Stops
+pub mod Parts
+pub mod Composing
+pub mod AllData
+pub mod Refusals
+pub mod Whole
+pub mod OneFault
+pub mod Reading
+pub mod Back
