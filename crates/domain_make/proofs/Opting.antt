@@ -1,6 +1,6 @@
 -- The lines of an OPT record, part by part.
 use Rattle.std.proofs.Common.{◌≡◌, ℕ, zero, suc, ◌+◌, ◌-◌, ◌*◌, ◌/◌, ◌%◌, ◌<◌, ◌≤◌, List, [], ◌∷◌, ◌++◌, length, take, drop, get_or, Bool, true, false, cond, refl, sym, ap, subst, ◌∙◌, inl, inr, arith, append_assoc, length-append}
-use Rattle.std.specs.Prelude.{◌⊎◌, ◌≢◌, codes, slice_index, slice_range, nat_lt, Option, Some, None, IsTrue}
+use Rattle.std.specs.Prelude.{◌⊎◌, ◌≢◌, codes, slice_index, slice_range, nat_lt, Option, Some, None, IsTrue, Result, Ok, Err, IfOk}
 use Rattle.std.specs.Char.{digit_value}
 use Rattle.std.specs.Int.{w16, from_be_bytes}
 use Rattle.std.specs.List.{flat_map}
@@ -20,6 +20,7 @@ use Rattle.domain_make.specs.Opts.IsStatusText.{bad_version, bad_cookie, numbere
 use Rattle.domain_make.specs.Opts.IsZeroText.{none, some}
 use Rattle.domain_make.specs.Parts.{IsNumberBelow}
 use Rattle.domain_make.specs.Remarks.{IsTrimmed, words_before}
+use Rattle.domain_make.specs.declared.error.Stop.{Stop}
 use Rattle.domain_make.specs.declared.opt.EdnsTold.{EdnsTold}
 use Rattle.domain_make.specs.declared.opt.OptionLine.{OptionLine}
 use Rattle.domain_make.specs.declared.opt.OptionLine.TheVariants.{Cut, Other, Whole}
@@ -267,7 +268,7 @@ zero_is text rest after high low is long x y ends few =
     let digits : rest ≡ four_digits n ++ (codes ", " ++ after) =
     four_first rest long ∙ same_four (get_or rest 0 0) (get_or rest 1 0) (get_or rest 2 0) (get_or rest 3 0) (hex_digit (n / 4096 % 16)) (hex_digit (n / 256 % 16)) (hex_digit (n / 16 % 16)) (hex_digit (n % 16)) (left 4 rest) (codes ", " ++ after)
     (x.high_is ∙ ap (λ k. hex_digit k) (sym a)) (x.low_is ∙ ap (λ k. hex_digit k) (sym b)) (y.high_is ∙ ap (λ k. hex_digit k) (sym c)) (y.low_is ∙ ap (λ k. hex_digit k) (sym d)) ends in
-    some (bits_small high low few y.small) (follows text (codes "MBZ: 0x") rest (four_digits n ++ (codes ", " ++ after)) is digits)
+    some (bits_small high low few y.small) (follows (codes "MBZ: 0x") text rest (four_digits n ++ (codes ", " ++ after)) is digits)
 
 -- What a text has where such bits are after its beginning.
 pub record ZeroParts (rest : List ℕ) (n : ℕ) (after : List ℕ) : Type 0 where
@@ -292,22 +293,22 @@ zero_whole n after few =
     }
 
 pub zero_parts : (text rest after : List ℕ) (n : ℕ) → text ≡ codes "MBZ: 0x" ++ rest → IsZeroText text n after → ZeroParts rest n after
-zero_parts text rest after n is (none other no same) = absurd (other rest is)
+zero_parts text rest after n is (none other unset same) = absurd (other rest is)
 zero_parts text rest after n is (some few same) = subst (λ r. ZeroParts r n after) (append_cancel_left (codes "MBZ: 0x") (four_digits n ++ (codes ", " ++ after)) rest (sym same ∙ is)) (zero_whole n after few)
 
 -- The bits are less than 16,384.
 pub zero_few : (text rest after : List ℕ) (n high : ℕ) → text ≡ codes "MBZ: 0x" ++ rest → IsHexOctet (get_or rest 0 0) (get_or rest 1 0) high → 64 ≤ high → IsZeroText text n after → ⊥
-zero_few text rest after n high is x many zero =
-    let its = zero_parts text rest after n is zero in
+zero_few text rest after n high is x many set =
+    let its = zero_parts text rest after n is set in
     let same : high ≡ n / 256 = octet_once (get_or rest 0 0) (get_or rest 1 0) high (n / 256) x its.high in
     let few : n < 16384 = its.small in
     absurd (omega arith)
 
 -- What follows them is one text.
 pub zero_once : (text : List ℕ) (n m : ℕ) (after rest : List ℕ) → IsZeroText text n after → IsZeroText text m rest → after ≡ rest
-zero_once text n m after rest (none other no same) (none also not is) = same ∙ sym is
-zero_once text n m after rest (none other no same) (some few is) = absurd (other (four_digits m ++ (codes ", " ++ rest)) is)
-zero_once text n m after rest (some few is) (none other no same) = absurd (other (four_digits n ++ (codes ", " ++ after)) is)
+zero_once text n m after rest (none other unset same) (none also unset_too is) = same ∙ sym is
+zero_once text n m after rest (none other unset same) (some few is) = absurd (other (four_digits m ++ (codes ", " ++ rest)) is)
+zero_once text n m after rest (some few is) (none other unset same) = absurd (other (four_digits n ++ (codes ", " ++ after)) is)
 zero_once text n m after rest (some few is) (some small also) =
     let its = zero_whole n after few in
     let they = zero_parts text (four_digits n ++ (codes ", " ++ after)) rest m is (some small also) in
@@ -326,7 +327,7 @@ status_begins text n never no_version no_cookie (bad_cookie same code) = no_cook
 status_begins text n never no_version no_cookie (numbered others same number big) = never others same
 
 pub size_alone : (text : List ℕ) (n : ℕ) (code : Option ℕ) → Without 44 text → IsSizeText text n code → IsNumberBelow 65536 text n
-size_alone text n code lack (alone number no) = number
+size_alone text n code lack (alone number untold) = number
 size_alone text n code lack (coded digits status k is number told same) = absurd (not_without 44 digits (codes " status: " ++ status) text is lack)
 
 -- What a text has that tells a response code.
@@ -338,7 +339,7 @@ pub record SizeParts (digits rest : List ℕ) (n : ℕ) : Type 0 where
   pub told : IsStatusText status code
 
 pub size_parts : (text digits rest : List ℕ) (n : ℕ) (code : Option ℕ) → text ≡ digits ++ (44 ∷ rest) → Without 44 digits → IsSizeText text n code → SizeParts digits rest n
-size_parts text digits rest n code is lack (alone number no) = absurd (not_without 44 digits rest text is (number_lacks 44 65536 text n refl number))
+size_parts text digits rest n code is lack (alone number untold) = absurd (not_without 44 digits rest text is (number_lacks 44 65536 text n refl number))
 size_parts text digits rest n code is lack (coded others status k same number told code_is) =
     let parts = parted_once 44 others (codes " status: " ++ status) digits rest (number_lacks 44 65536 others n refl number) lack (sym same ∙ is) in
     record { status = status; code = k; number = subst (λ w. IsNumberBelow 65536 w n) parts.0 number; rest_is = sym parts.1; told = told }
@@ -380,6 +381,9 @@ pub record EdnsBegins (text s : List ℕ) : Type 0 where
   pub lack : Without 44 digits
   pub flags : from_flags ≡ codes " flags:" ++ s
 
+pub edns_begins : (text v d f s : List ℕ) → text ≡ codes "; EDNS: version: " ++ v → v ≡ d ++ (44 ∷ f) → Without 44 d → f ≡ codes " flags:" ++ s → EdnsBegins text s
+edns_begins text v d f s begins version lack flags = record { from_version = v; digits = d; from_flags = f; begins = begins; version = version; lack = lack; flags = flags }
+
 pub edns_flags : (text s : List ℕ) (told : EdnsTold) → EdnsBegins text s → (is : IsEdnsLine text told) → s ≡ flags_told told is.from_zero
 edns_flags text s told has is =
     append_cancel_left (codes " flags:") s (flags_told told is.from_zero) (sym has.flags ∙ sym (edns_parts text has.from_version has.digits has.from_flags told is has.begins has.version has.lack).1)
@@ -391,6 +395,9 @@ pub record FlagsFound (s u : List ℕ) : Type 0 where
   pub compact_ok : Bool
   pub first : Looked (codes " do") s between dnssec_ok
   pub second : Looked (codes " co") between u compact_ok
+
+pub flags_found : (s t u : List ℕ) (x y : Bool) → Looked (codes " do") s t x → Looked (codes " co") t u y → FlagsFound s u
+flags_found s t u x y first second = record { between = t; dnssec_ok = x; compact_ok = y; first = first; second = second }
 
 pub edns_semicolon : (text s u : List ℕ) (told : EdnsTold) → EdnsBegins text s → FlagsFound s u → (is : IsEdnsLine text told) → u ≡ codes "; " ++ is.from_zero
 edns_semicolon text s u told has found is =
@@ -404,26 +411,26 @@ edns_zero text s u v told has found ends is =
     subst (λ z. IsZeroText z told.zero (codes "udp: " ++ is.from_size)) (append_cancel_left (codes "; ") is.from_zero v (sym (edns_semicolon text s u told has found is) ∙ ends)) is.zero_is
 
 pub edns_size : (text s u v w : List ℕ) (n : ℕ) (told : EdnsTold) → EdnsBegins text s → FlagsFound s u → u ≡ codes "; " ++ v → IsZeroText v n w → (is : IsEdnsLine text told) → w ≡ codes "udp: " ++ is.from_size
-edns_size text s u v w n told has found ends zero is = zero_once v n told.zero w (codes "udp: " ++ is.from_size) zero (edns_zero text s u v told has found ends is)
+edns_size text s u v w n told has found ends bits is = zero_once v n told.zero w (codes "udp: " ++ is.from_size) bits (edns_zero text s u v told has found ends is)
 
 pub edns_last : (text s u v w x : List ℕ) (n : ℕ) (told : EdnsTold) → EdnsBegins text s → FlagsFound s u → u ≡ codes "; " ++ v → IsZeroText v n w → w ≡ codes "udp: " ++ x → (is : IsEdnsLine text told) → IsSizeText x told.size told.code
-edns_last text s u v w x n told has found ends zero udp is =
-    subst (λ z. IsSizeText z told.size told.code) (append_cancel_left (codes "udp: ") is.from_size x (sym (edns_size text s u v w n told has found ends zero is) ∙ udp)) is.size_is
+edns_last text s u v w x n told has found ends bits udp is =
+    subst (λ z. IsSizeText z told.size told.code) (append_cancel_left (codes "udp: ") is.from_size x (sym (edns_size text s u v w n told has found ends bits is) ∙ udp)) is.size_is
 
 -- The line that was found.
 pub edns_is : (text s u v w x : List ℕ) (told : EdnsTold) → (has : EdnsBegins text s) → (found : FlagsFound s u) → u ≡ codes "; " ++ v → IsZeroText v told.zero w → w ≡ codes "udp: " ++ x → IsNumberBelow 256 has.digits told.version → IsSizeText x told.size told.code
     → found.dnssec_ok ≡ told.dnssec_ok → found.compact_ok ≡ told.compact_ok → IsEdnsLine text told
-edns_is text s u v w x told has found ends zero udp version size same_do same_co =
-    let compact : found.between ≡ cond told.compact_ok (codes " co") [] ++ (codes "; " ++ v) = subst (λ b. found.between ≡ cond b (codes " co") [] ++ (codes "; " ++ v)) same_co (follows found.between (cond found.compact_ok (codes " co") []) u (codes "; " ++ v) found.second.0 ends) in
-    let flags : s ≡ flags_told told v = subst (λ b. s ≡ cond b (codes " do") [] ++ (cond told.compact_ok (codes " co") [] ++ (codes "; " ++ v))) same_do (follows s (cond found.dnssec_ok (codes " do") []) found.between (cond told.compact_ok (codes " co") [] ++ (codes "; " ++ v)) found.first.0 compact) in
-    let from_flags : has.from_flags ≡ codes " flags:" ++ flags_told told v = follows has.from_flags (codes " flags:") s (flags_told told v) has.flags flags in
+edns_is text s u v w x told has found ends bits udp version size same_do same_co =
+    let compact : found.between ≡ cond told.compact_ok (codes " co") [] ++ (codes "; " ++ v) = subst (λ b. found.between ≡ cond b (codes " co") [] ++ (codes "; " ++ v)) same_co (follows (cond found.compact_ok (codes " co") []) found.between u (codes "; " ++ v) found.second.0 ends) in
+    let flags : s ≡ flags_told told v = subst (λ b. s ≡ cond b (codes " do") [] ++ (cond told.compact_ok (codes " co") [] ++ (codes "; " ++ v))) same_do (follows (cond found.dnssec_ok (codes " do") []) s found.between (cond told.compact_ok (codes " co") [] ++ (codes "; " ++ v)) found.first.0 compact) in
+    let from_flags : has.from_flags ≡ codes " flags:" ++ flags_told told v = follows (codes " flags:") has.from_flags s (flags_told told v) has.flags flags in
     record {
       version_digits = has.digits;
       from_zero = v;
       from_size = x;
-      text_is = follows text (codes "; EDNS: version: ") has.from_version (has.digits ++ (44 ∷ (codes " flags:" ++ flags_told told v))) has.begins (has.version ∙ ap (λ r. has.digits ++ (44 ∷ r)) from_flags);
+      text_is = follows (codes "; EDNS: version: ") text has.from_version (has.digits ++ (44 ∷ (codes " flags:" ++ flags_told told v))) has.begins (has.version ∙ ap (λ r. has.digits ++ (44 ∷ r)) from_flags);
       version_is = version;
-      zero_is = subst (λ z. IsZeroText v told.zero z) udp zero;
+      zero_is = subst (λ z. IsZeroText v told.zero z) udp bits;
       size_is = size;
     }
 
@@ -458,7 +465,7 @@ option_is text r d p os n e f number are short = record {
   digits = d;
   pairs = p;
   data_octets = os;
-  text_is = follows text (codes "; OPT=") r (d ++ (58 ∷ p)) e f;
+  text_is = follows (codes "; OPT=") text r (d ++ (58 ∷ p)) e f;
   code_is = number;
   pairs_are = are;
   short = short;
@@ -539,7 +546,7 @@ pub cut_is : (text r s d p q os : List ℕ) (n : ℕ) → text ≡ codes "; \\# 
 cut_is text r s d p q os n e f g left_is number are is_cut = record {
   digits = d;
   pairs = q;
-  text_is = follows text (codes "; \\# ") r (d ++ (q ++ cut_end)) e (f ∙ (ap (λ z. z ++ cut_end) (g ∙ ap (λ z. d ++ z) (sym (from_space s d p g) ∙ sym left_is)) ∙ append_assoc d q cut_end));
+  text_is = follows (codes "; \\# ") text r (d ++ (q ++ cut_end)) e (f ∙ (ap (λ z. z ++ cut_end) (g ∙ ap (λ z. d ++ z) (sym (from_space s d p g) ∙ sym left_is)) ∙ append_assoc d q cut_end));
   count = n;
   count_is = number;
   pairs_are = are;
@@ -552,6 +559,10 @@ pub line_of : (text old new : List ℕ) (kind : OptionLine) → AddsLine text ol
 line_of text old new Whole adds = (adds.0, adds.1)
 line_of text old new Cut adds = (adds.0, adds.1)
 line_of text old new Other adds = λ octets is. elim is [ inl whole ↦ adds.0.0 octets whole | inr end ↦ adds.1.0 octets end ]
+
+pub lines_of : (text old new : List ℕ) (r : Result OptionLine Stop) → IfOk r (AddsLine text old new) → IfOk r (IsLineOf text)
+lines_of text old new (Ok kind) adds = line_of text old new kind adds
+lines_of text old new (Err stop) adds = tt
 
 first_once : (t l r k s : List ℕ) → IsFirstLine t l r → IsFirstLine t k s → l ≡ k
 first_once t l r k s a b = elim a.text_is [

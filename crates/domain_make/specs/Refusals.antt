@@ -131,8 +131,8 @@ pub data NoPushedRecord (compresses : Bool) (section : Section) (line : List ℕ
   no_record : NoRecordWords line words f c → NoPushedRecord compresses section line words s f c
   stopped : (head : RecordHead) (octets : List ℕ) → IsRecordWords line words head octets → RecordStops compresses section head octets s f → c ≡ first_column words → NoPushedRecord compresses section line words s f c
 
--- What the line says is an entry, which isn't pushed: its reasons, or an OPT record whose response code has other lower
--- bits than the header.
+-- What the line says is an entry, which isn't pushed: its reasons, or an OPT record whose response code has other
+-- lower bits than the header.
 pub data EntryNotPushed (compresses : Bool) (line ahead : List ℕ) (old : Draft) (f : Fault) (c : ℕ) : Type 0 where
   opt : (text : List ℕ) (told : EdnsTold) (octets : List ℕ) → settled old.stage ≡ Records Additional → IsTrimmed line text → IsEdnsLine text told → (IsOtherStatus told (draft_rcode old) → ⊥)
       → AreOptionsAhead ahead octets → RecordNotPushed compresses Additional (edns_head told) octets old.content f → c ≡ 1 → EntryNotPushed compresses line ahead old f c

@@ -309,7 +309,8 @@ fn push_option(alloc: Global, text: &[u8], options: &mut Vec<u8>) -> Result<bool
 /// How many octets of data an option has that octets begin with.
 fn data_len(octets: &[u8]) -> usize
     requires { 4 ≤ length octets.now }
-    ensures { result ≡ number16 octets.now 2 }
+    ensures len { result ≡ number16 octets.now 2 }
+    ensures small { result < 65536 }
 {
     usize::from(u16::from_be_bytes([octets[2], octets[3]]))
 }

@@ -16,13 +16,13 @@ pub returns-in_default-number_below-clause-ok : goal.returns-in_default-number_b
 returns-in_default-number_below-clause-ok c =
     (λ octets. no_cut_count _ _ _ _ _ octets c.in-Some.ensures c.in-Some-before.ensures c.in-Some-parted.ensures.some c.in-Some-parted.ensures.first (c.in_default-number_below.ensures.none refl), refl)
 
-pub returns-in_default-pairs_of-clause-ok : goal.returns-in_default-pairs_of-clause-ok
-returns-in_default-pairs_of-clause-ok c =
-    (λ octets. no_cut_pairs _ _ _ _ _ _ octets c.in-Some.ensures c.in-Some-before.ensures c.in-Some-parted.ensures.some c.in-Some-parted.ensures.first c.octets_from.ensures (c.in_default-pairs_of.ensures.none refl), refl)
+pub returns-in_default-2-clause-ok : goal.returns-in_default-2-clause-ok
+returns-in_default-2-clause-ok c =
+    (λ octets. no_cut_pairs _ _ _ _ _ _ octets c.in-Some.ensures c.in-Some-before.ensures c.in-Some-parted.ensures.some c.in-Some-parted.ensures.first c.octets_from.ensures (c.in_default-2.ensures.none refl), refl)
 
 pub returns-then-not-is_cut-clause-ok : goal.returns-then-not-is_cut-clause-ok
 returns-then-not-is_cut-clause-ok c = (
-  λ octets. no_cut _ _ _ _ _ _ _ octets _ c.in-Some.ensures c.in-Some-before.ensures c.in-Some-parted.ensures.some c.in-Some-parted.ensures.first c.octets_from.ensures c.in-Some-number_below.ensures.some c.in-Some-pairs_of.ensures.some
+  λ octets. no_cut _ _ _ _ _ _ _ octets _ c.in-Some.ensures c.in-Some-before.ensures c.in-Some-parted.ensures.some c.in-Some-parted.ensures.first c.octets_from.ensures c.in-Some-number_below.ensures.some c.in-Some-2.ensures.some
       (λ is. false≢true (sym c.if-not-is_cut.true ∙ c.is_cut.ensures.1 is)),
   refl,
 )
@@ -30,6 +30,6 @@ returns-then-not-is_cut-clause-ok c = (
 pub returns-clause-ok : goal.returns-clause-ok
 returns-clause-ok c = (
   _,
-  cut_is _ _ _ _ _ _ _ c.in-Some.ensures c.in-Some-before.ensures c.in-Some-parted.ensures.some c.octets_from.ensures c.in-Some-number_below.ensures.some c.in-Some-pairs_of.ensures.some (c.is_cut.ensures.0 c.if-not-is_cut.false),
+  cut_is _ _ _ _ _ _ _ c.in-Some.ensures c.in-Some-before.ensures c.in-Some-parted.ensures.some c.octets_from.ensures c.in-Some-number_below.ensures.some c.in-Some-2.ensures.some (c.is_cut.ensures.0 c.if-not-is_cut.false),
   c.in_ok-append.ensures.ok,
 )

@@ -12,17 +12,17 @@ pub returns-in_default-number_below-clause-ok : goal.returns-in_default-number_b
 returns-in_default-number_below-clause-ok c =
     (λ octets. no_option_code _ _ _ _ octets c.in-Some.ensures c.in-Some-parted.ensures.some c.in-Some-parted.ensures.first (c.in_default-number_below.ensures.none refl), refl)
 
-pub returns-in_default-pairs_of-clause-ok : goal.returns-in_default-pairs_of-clause-ok
-returns-in_default-pairs_of-clause-ok c =
-    (λ octets. no_option_pairs _ _ _ _ octets c.in-Some.ensures c.in-Some-parted.ensures.some c.in-Some-parted.ensures.first (c.in_default-pairs_of.ensures.none refl), refl)
+pub returns-in_default-2-clause-ok : goal.returns-in_default-2-clause-ok
+returns-in_default-2-clause-ok c =
+    (λ octets. no_option_pairs _ _ _ _ octets c.in-Some.ensures c.in-Some-parted.ensures.some c.in-Some-parted.ensures.first (c.in_default-2.ensures.none refl), refl)
 
-pub returns-then-octets-gt65535-clause-ok : goal.returns-then-octets-gt65535-clause-ok
-returns-then-octets-gt65535-clause-ok c =
-    (λ octets. no_long_option _ _ _ _ _ octets c.in-Some.ensures c.in-Some-parted.ensures.some c.in-Some-parted.ensures.first c.in-Some-pairs_of.ensures.some (omega arith), refl)
+pub returns-then-len-gt65535-clause-ok : goal.returns-then-len-gt65535-clause-ok
+returns-then-len-gt65535-clause-ok c =
+    (λ octets. no_long_option _ _ _ _ _ octets c.in-Some.ensures c.in-Some-parted.ensures.some c.in-Some-parted.ensures.first c.in-Some-2.ensures.some (omega arith), refl)
 
 pub returns-clause-ok : goal.returns-clause-ok
 returns-clause-ok c = (
   _,
-  option_is _ _ _ _ _ _ c.in-Some.ensures c.in-Some-parted.ensures.some c.in-Some-number_below.ensures.some c.in-Some-pairs_of.ensures.some (omega arith),
+  option_is _ _ _ _ _ _ c.in-Some.ensures c.in-Some-parted.ensures.some c.in-Some-number_below.ensures.some c.in-Some-2.ensures.some (omega arith),
   append_three _ _ _ _ _ _ _ c.in_ok-append.ensures.ok c.in_ok-append-2.ensures.ok c.in_ok-append-3.ensures.ok,
 )
