@@ -1,6 +1,6 @@
 -- What a builder holds after each line.
 use Rattle.std.proofs.Common.{◌≡◌, ℕ, ◌+◌, ◌<◌, ◌≤◌, Bool, true, List, [], ◌∷◌, length, drop, refl, sym, ap, subst, ◌∙◌, arith, add-one, inl, inr}
-use Rattle.std.specs.Prelude.{◌≢◌, slice_index, slice_range, Result, Ok, Err, OnOk, Option, Some, None, IfSome}
+use Rattle.std.specs.Prelude.{◌≢◌, slice_index, slice_range, Result, Ok, Err, OnOk, IfOk, Option, Some, None, IfSome}
 use Rattle.domain_header.specs.Bits.{bits}
 use Rattle.domain_header.specs.Headers.{header_low}
 use Rattle.domain_header.specs.declared.flags.Header.{Header}
@@ -99,6 +99,19 @@ takes_record c l stage section old new words head octets place plain are says pu
   record_held c stage (Records section) section old new head octets d pushed is,
 )
 
+-- The same at each stage where records of the section are, if it was pushed.
+pub record_ok : {E : Type 0} (c : Bool) (l : List ℕ) (section : Section) (old new : State) (words : List WordAt) (r : Result (Unit {0}) E) → slice_index l 0 ≢ 59 → AreWords l 0 words
+    → OnOk r ((head : RecordHead) × (octets : List ℕ) × IsRecordWords l words head octets × PushesRecord c section head (λ _ s. s ≡ octets) old new)
+    → OnOk r ((stage : Stage) → settled stage ≡ Records section → DraftsLine c l stage old (Records section) new)
+record_ok c l section old new words (Ok x) plain are h stage place = takes_record c l stage section old new words h.0 h.1 place plain are h.2 h.3
+record_ok c l section old new words (Err e) plain are h = tt
+
+-- What is taken at any stage of the section is at this one.
+pub section_ok : {E : Type 0} (c : Bool) (l : List ℕ) (stage : Stage) (section : Section) (old new : State) (r : Result (Unit {0}) E) → Records section ≡ settled stage
+    → OnOk r ((t : Stage) → settled t ≡ Records section → DraftsLine c l t old (Records section) new) → OnOk r (DraftsLine c l stage old (settled stage) new)
+section_ok c l stage section old new (Ok x) at takes = subst (λ next. DraftsLine c l stage old next new) at (takes stage (sym at))
+section_ok c l stage section old new (Err e) at takes = tt
+
 -- An OPT record was pushed.
 pub takes_opt : (c : Bool) (l ahead text : List ℕ) (stage : Stage) (old new : State) (told : EdnsTold) (octets : List ℕ) → settled stage ≡ Records Additional → IsTrimmed l text → IsEdnsLine text told
     → (IsOtherStatus told (bits 1 16 (header_low old.header)) → ⊥) → AreOptionsAhead ahead octets → PushesRecord c Additional (edns_head told) (λ _ s. s ≡ octets) old new → DraftsThere c l ahead stage old Options new
@@ -126,6 +139,23 @@ takes_below c l s next (leads_cut text octets trimmed is_cut) = λ d is. (settle
 -- A line that says no OPT record, whatever is below it.
 pub takes_there : (c : Bool) (l ahead : List ℕ) (stage next : Stage) (old new : State) → DraftsLine c l stage old next new → DraftsThere c l ahead stage old next new
 takes_there c l ahead stage next old new takes = λ d is. let more = takes d is in (more.0, inl more.1, more.2)
+
+-- The same where both stages are known.
+pub there_at : (c : Bool) (l ahead : List ℕ) (stage place next to : Stage) (old new : State) → stage ≡ place → next ≡ to → DraftsLine c l place old to new → DraftsThere c l ahead stage old next new
+there_at c l ahead stage place next to old new at leads takes = takes_there c l ahead stage next old new (subst (λ s. DraftsLine c l s old next new) (sym at) (subst (λ n. DraftsLine c l place old n new) (sym leads) takes))
+
+-- The same of a stage that is known, if the line is taken.
+pub there_ok : (c : Bool) (l ahead : List ℕ) (stage place : Stage) (old new : State) (r : Result Stage Stop) → stage ≡ place → IfOk r (λ next. DraftsLine c l place old next new) → IfOk r (λ next. DraftsThere c l ahead stage old next new)
+there_ok c l ahead stage place old new (Ok next) at takes = there_at c l ahead stage place next next old new at refl takes
+there_ok c l ahead stage place old new (Err stop) at takes = tt
+
+-- An OPT record, if it is taken.
+pub opt_ok : (c : Bool) (l ahead text : List ℕ) (stage : Stage) (old new : State) (told : EdnsTold) (r : Result Stage Stop) → settled stage ≡ Records Additional → IsTrimmed l text → IsEdnsLine text told
+    → IfOk r (λ _. IsOtherStatus told (bits 1 16 (header_low old.header)) → ⊥) → IfOk r (λ next. next ≡ Options)
+    → IfOk r (λ _. (octets : List ℕ) × AreOptionsAhead ahead octets × PushesRecord c Additional (edns_head told) (λ _ s. s ≡ octets) old new) → IfOk r (λ next. DraftsThere c l ahead stage old next new)
+opt_ok c l ahead text stage old new told (Ok next) place trimmed edns code at adds =
+    subst (λ n. DraftsThere c l ahead stage old n new) (sym at) (takes_opt c l ahead text stage old new told adds.0 place trimmed edns code adds.1 adds.2)
+opt_ok c l ahead text stage old new told (Err stop) place trimmed edns code at adds = tt
 
 -- The lines before an offset were taken.
 abbrev pub Taken : Bool → List ℕ → ℕ → ℕ → Stage → State → State → Type 0

@@ -473,9 +473,10 @@ option_is text r d p os n e f number are short = record {
 }
 
 -- Three lists were appended, one after the other.
-pub append_three : (old first second new a b os : List ℕ) → first ≡ old ++ a → second ≡ first ++ b → new ≡ second ++ os → new ≡ old ++ (a ++ (b ++ os))
-append_three old first second new a b os e f g =
-    g ∙ (ap (λ z. z ++ os) (f ∙ ap (λ z. z ++ b) e) ∙ (append_assoc (old ++ a) b os ∙ append_assoc old a (b ++ os)))
+pub append_three : (old first second new a b os x y z : List ℕ) → a ≡ x → b ≡ y → os ≡ z → first ≡ old ++ a → second ≡ first ++ b → new ≡ second ++ os → new ≡ old ++ (x ++ (y ++ z))
+append_three old first second new a b os x y z is also last e f g =
+    g ∙ (ap (λ w. w ++ os) (f ∙ ap (λ w. w ++ b) e) ∙ (append_assoc (old ++ a) b os ∙ append_assoc old a (b ++ os)))
+    ∙ (ap (λ w. old ++ (w ++ (b ++ os))) is ∙ (ap (λ w. old ++ (x ++ (w ++ os))) also ∙ ap (λ w. old ++ (x ++ (y ++ w))) last))
 
 -- ---- octets that end before an option does
 
@@ -607,6 +608,14 @@ ends_there rest line trimmed following first cut_off no_option no_end octets r b
 pub options_other : (text rest line trimmed following old new : List ℕ) → IsFirstLine rest line following → IsTrimmed line trimmed → AddsLine trimmed old new Other → OptionsRead text rest old → AreOptionsAhead text new
 options_other text rest line trimmed following old new first cut_off adds before =
     subst (λ z. AreOptionsAhead text z) (append-nil old ∙ sym adds.0.1) (before [] (no_more (ends_there rest line trimmed following first cut_off adds.0.0 adds.1.0)))
+
+-- The line is the last one of them, or none.
+pub options_last : (text rest line trimmed following old new : List ℕ) (kind : OptionLine) → (kind ≡ Cut) ⊎ (kind ≡ Other) → 0 < length rest → IsFirstLine rest line following → IsTrimmed line trimmed → AddsLine trimmed old new kind → OptionsRead text rest old
+    → AreOptionsAhead text new
+options_last text rest line trimmed following old new kind (inl at) longer first cut_off adds before =
+    options_cut text rest line trimmed following old new longer first cut_off (subst (λ k. AddsLine trimmed old new k) at adds) before
+options_last text rest line trimmed following old new kind (inr at) longer first cut_off adds before =
+    options_other text rest line trimmed following old new first cut_off (subst (λ k. AddsLine trimmed old new k) at adds) before
 
 pub options_end : (text rest options : List ℕ) → length rest ≤ 0 → OptionsRead text rest options → AreOptionsAhead text options
 options_end text rest options few before = subst (λ z. AreOptionsAhead text z) (append-nil options) (before [] (no_more (λ octets r begins. absurd (omega (arith, begins.more)))))

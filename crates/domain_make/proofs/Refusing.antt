@@ -1,6 +1,6 @@
 -- Lines that aren't taken say nothing, and a text whose lines all say something has none.
 use Rattle.std.proofs.Common.{◌≡◌, ℕ, suc, ◌+◌, ◌<◌, ◌≤◌, Bool, List, [], ◌∷◌, length, get_or, take, drop, ◌++◌, zero, refl, sym, ap, subst, ◌∙◌, arith, inl, inr}
-use Rattle.std.specs.Prelude.{◌≢◌, ◌⊎◌, slice_index, slice_range, codes}
+use Rattle.std.specs.Prelude.{◌≢◌, ◌⊎◌, slice_index, slice_range, codes, Result, Ok, Err, IfErr}
 use Rattle.std.proofs.lemmas.Bool.{cases_lt, cases_order}
 use Rattle.domain_message.specs.Entries.{QuestionFields}
 use Rattle.domain_message.specs.declared.section.Section.{Section}
@@ -12,7 +12,7 @@ use Rattle.domain_make.specs.Drafts.{Draft, IsAsked, IsRemark, LineSays, OptSays
 use Rattle.domain_make.specs.Drafts.LineSays.{asked as says_asked, cut as says_cut, empty as says_empty, entry as says_entry, option as says_option, question as says_question, remark as says_remark}
 use Rattle.domain_make.specs.Drafts.LinesSay.{none, line}
 use Rattle.domain_make.specs.Entries.{IsQuestionWords, IsRecordWords}
-use Rattle.domain_make.specs.Stops.{NoWords}
+use Rattle.domain_make.specs.Stops.{IfFault, NoWords}
 use Rattle.domain_make.specs.Faults.{NoQuestionWords, NoRecordWords}
 use Rattle.domain_make.specs.Refusals.{NoRemark, IsOutside, IsFaulty, QuestionStops, RecordStops, QuestionNotPushed, RecordNotPushed, NoPushedQuestion, NoPushedRecord, IsRefused, RefusesLine, StopsAtLine, EntriesHaveRoom, IsNoOpt}
 use Rattle.domain_make.specs.Refusals.IsFaulty.{asked as faulty_asked, asked_words as faulty_asked_words, entry as faulty_entry, no_words as faulty_no_words, outside as faulty_outside, question as faulty_question, remark as faulty_remark}
@@ -31,6 +31,8 @@ use Rattle.domain_make.specs.Words.{WordAt, word_at, words_at, AreWords}
 use Rattle.domain_make.specs.declared.error.Fault.{Fault}
 use Rattle.domain_make.specs.declared.error.Fault.TheVariants as fault
 use Rattle.domain_make.specs.declared.error.LineError.{LineError}
+use Rattle.domain_make.specs.declared.error.Stop.{Stop}
+use Rattle.domain_make.specs.declared.error.Stop.TheVariants.{Refused, Memory}
 use Rattle.domain_make.specs.declared.remark.Stage.{Stage}
 use Rattle.domain_make.specs.declared.opt.EdnsTold.{EdnsTold}
 use Rattle.domain_make.specs.declared.remark.Stage.TheVariants.{Start, Codes, Told, Questions, Records, Options}
@@ -215,6 +217,14 @@ refuses_record comp l stage section words s f c place plain are some (lack_recor
 refuses_record comp l stage section words s f c place plain are some (lack_record_stopped head octets says stops at_first) =
     λ ahead d is. no_room (room_entry section words head octets (ap settled is.stage_is ∙ place) plain are says (record_stops comp stage section s d head octets f is stops) at_first)
 
+-- The same at each stage where records of the section are.
+pub record_err : {A : Type 0} (comp : Bool) (l : List ℕ) (section : Section) (words : List WordAt) (s : State) (r : Result A Stop) → slice_index l 0 ≢ 59 → AreWords l 0 words → 0 < length words
+    → IfErr r (λ e. IfFault e (NoPushedRecord comp section l words s))
+    → IfErr r (λ e. (stage : Stage) → settled stage ≡ Records section → IfFault e (λ f c. (ahead : List ℕ) → RefusesLine comp l ahead stage s f c))
+record_err comp l section words s (Ok x) plain are some lack = tt
+record_err comp l section words s (Err (Refused f c)) plain are some lack stage place = refuses_record comp l stage section words s f c place plain are some lack
+record_err comp l section words s (Err Memory) plain are some lack stage place = tt
+
 -- An OPT record whose response code is another one than the header's, or that isn't pushed.
 pub refuses_opt : (comp : Bool) (l ahead text : List ℕ) (stage : Stage) (s : State) (told : EdnsTold) (f : Fault) (c : ℕ) → settled stage ≡ Records Additional → IsTrimmed l text → IsEdnsLine text told
     → (c ≡ 1) × ((IsOtherStatus told (bits 1 16 (header_low s.header)) × (f ≡ fault.Status))
@@ -224,6 +234,22 @@ refuses_opt comp l ahead text stage s told f c place cut edns (at_one, inl other
     no_room (room_status text told (ap settled is.stage_is ∙ place) cut edns (subst (λ (h : Header). IsOtherStatus told (bits 1 16 (header_low h))) (sym is.header_is) other.0) other.1 at_one)
 refuses_opt comp l ahead text stage s told f c place cut edns (at_one, inr stops) = λ d is.
     no_room (room_opt text told stops.0 (ap settled is.stage_is ∙ place) cut edns (subst (λ (h : Header). IsOtherStatus told (bits 1 16 (header_low h)) → ⊥) (sym is.header_is) stops.1) stops.2 (record_stops comp stage Additional s d (edns_head told) stops.0 f is stops.3) at_one)
+
+-- What isn't taken at a stage, whatever is below it.
+pub refused_at : (comp : Bool) (l ahead : List ℕ) (stage place : Stage) (s : State) (e : Stop) → stage ≡ place → IfFault e (λ f c. (more : List ℕ) → RefusesLine comp l more place s f c) → IfFault e (RefusesLine comp l ahead stage s)
+refused_at comp l ahead stage place s (Refused f c) at lack = subst (λ t. RefusesLine comp l ahead t s f c) (sym at) (lack ahead)
+refused_at comp l ahead stage place s Memory at lack = tt
+
+pub there_err : {A : Type 0} (comp : Bool) (l ahead : List ℕ) (stage place : Stage) (s : State) (r : Result A Stop) → stage ≡ place → IfErr r (λ e. IfFault e (λ f c. (more : List ℕ) → RefusesLine comp l more place s f c))
+    → IfErr r (λ e. IfFault e (RefusesLine comp l ahead stage s))
+there_err comp l ahead stage place s (Ok x) at lack = tt
+there_err comp l ahead stage place s (Err e) at lack = refused_at comp l ahead stage place s e at lack
+
+-- What isn't taken at any stage of the section isn't at this one.
+pub section_err : {A : Type 0} (comp : Bool) (l : List ℕ) (stage : Stage) (section : Section) (s : State) (r : Result A Stop) → Records section ≡ settled stage
+    → IfErr r (λ e. (t : Stage) → settled t ≡ Records section → IfFault e (λ f c. (ahead : List ℕ) → RefusesLine comp l ahead t s f c)) → IfErr r (λ e. IfFault e (λ f c. (ahead : List ℕ) → RefusesLine comp l ahead stage s f c))
+section_err comp l stage section s (Ok x) at lack = tt
+section_err comp l stage section s (Err e) at lack = lack stage (sym at)
 
 -- ---- what a line isn't, at its stage
 
@@ -284,56 +310,56 @@ remark_there l stage section begins place = record { begins = begins; other = λ
 data Marked (text : List ℕ) (stage next : Stage) : Type 0 where
   below : (octets : List ℕ) → stage ≡ Options → IsOptionLine text octets → next ≡ Options → Marked text stage next
   ended : (octets : List ℕ) → stage ≡ Options → IsCutLine text octets → next ≡ Records Additional → Marked text stage next
-  first : (told : EdnsTold) → settled stage ≡ Records Additional → IsEdnsLine text told → next ≡ Options → Marked text stage next
+  begun : (told : EdnsTold) → settled stage ≡ Records Additional → IsEdnsLine text told → next ≡ Options → Marked text stage next
 
 marked_once : (text : List ℕ) (stage p q : Stage) → Marked text stage p → Marked text stage q → p ≡ q
 marked_once text stage p q (below o at is e) (below u too also f) = e ∙ sym f
 marked_once text stage p q (below o at is e) (ended u too also f) = absurd (two_kinds (codes "; OPT=") (codes "; \\# ") text _ _ refl is.text_is also.text_is)
-marked_once text stage p q (below o at is e) (first told too also f) = e ∙ sym f
+marked_once text stage p q (below o at is e) (begun told too also f) = e ∙ sym f
 marked_once text stage p q (ended o at is e) (below u too also f) = absurd (two_kinds (codes "; \\# ") (codes "; OPT=") text _ _ refl is.text_is also.text_is)
 marked_once text stage p q (ended o at is e) (ended u too also f) = e ∙ sym f
-marked_once text stage p q (ended o at is e) (first told too also f) = absurd (two_kinds (codes "; \\# ") (codes "; EDNS: version: ") text _ _ refl is.text_is also.text_is)
-marked_once text stage p q (first told at is e) (below u too also f) = e ∙ sym f
-marked_once text stage p q (first told at is e) (ended u too also f) = absurd (two_kinds (codes "; EDNS: version: ") (codes "; \\# ") text _ _ refl is.text_is also.text_is)
-marked_once text stage p q (first told at is e) (first other too also f) = e ∙ sym f
+marked_once text stage p q (ended o at is e) (begun told too also f) = absurd (two_kinds (codes "; \\# ") (codes "; EDNS: version: ") text _ _ refl is.text_is also.text_is)
+marked_once text stage p q (begun told at is e) (below u too also f) = e ∙ sym f
+marked_once text stage p q (begun told at is e) (ended u too also f) = absurd (two_kinds (codes "; EDNS: version: ") (codes "; \\# ") text _ _ refl is.text_is also.text_is)
+marked_once text stage p q (begun told at is e) (begun other too also f) = e ∙ sym f
 
 -- It begins as one, and with a semicolon.
 marked_begins : (text : List ℕ) (stage next : Stage) → Marked text stage next → BeginsAsOpt text
 marked_begins text stage next (below o at is e) = (_, inr (inl is.text_is))
 marked_begins text stage next (ended o at is e) = (_, inr (inr is.text_is))
-marked_begins text stage next (first told at is e) = (_, inl is.text_is)
+marked_begins text stage next (begun told at is e) = (_, inl is.text_is)
 
 marked_remark : (l text : List ℕ) (stage next : Stage) → IsTrimmed l text → Marked text stage next → IsRemark l stage
 marked_remark l text stage next cut (below o at is e) = record { begins = option_marked l text o cut is; other = λ asked _. absurd (questions_options stage asked at) }
 marked_remark l text stage next cut (ended o at is e) = record { begins = cut_marked l text o cut is; other = λ asked _. absurd (questions_options stage asked at) }
-marked_remark l text stage next cut (first told at is e) = record { begins = edns_marked l text told cut is; other = λ asked _. absurd (two_stages stage Additional asked at) }
+marked_remark l text stage next cut (begun told at is e) = record { begins = edns_marked l text told cut is; other = λ asked _. absurd (two_stages stage Additional asked at) }
 
 -- A line leads from a stage to another: as a remark, as one of an OPT record, or as another, which leaves the stage.
 data Leads (l : List ℕ) (stage next : Stage) : Type 0 where
   remarked : (text : List ℕ) (old new : Header) → IsRemark l stage → IsTrimmed l text → Remarks text stage old next new → Leads l stage next
   marked : (text : List ℕ) → IsTrimmed l text → Marked text stage next → Leads l stage next
-  other : (IsRemark l stage → ⊥) → next ≡ settled stage → Leads l stage next
+  unmarked : (IsRemark l stage → ⊥) → next ≡ settled stage → Leads l stage next
 
 leads : (l ahead : List ℕ) (a x : Draft) → SaysThere l ahead a x → Leads l a.stage x.stage
-leads l ahead a x (inl (says_empty plain are same)) = other (λ is. plain is.begins) (ap (λ (d : Draft). d.stage) same)
+leads l ahead a x (inl (says_empty plain are same)) = unmarked (λ is. plain is.begins) (ap (λ (d : Draft). d.stage) same)
 leads l ahead a x (inl (says_remark text is cut told same)) = remarked text a.header x.header is cut told
-leads l ahead a x (inl (says_asked words q at begins are told same)) = other (λ is. is.other at begins) (ap (λ (d : Draft). d.stage) same ∙ (at ∙ sym (ap settled at)))
-leads l ahead a x (inl (says_question words q at plain are told same)) = other (λ is. plain is.begins) (ap (λ (d : Draft). d.stage) same ∙ (at ∙ sym (ap settled at)))
-leads l ahead a x (inl (says_entry section words head octets at plain are told same)) = other (λ is. plain is.begins) (ap (λ (d : Draft). d.stage) same ∙ sym at)
+leads l ahead a x (inl (says_asked words q at begins are told same)) = unmarked (λ is. is.other at begins) (ap (λ (d : Draft). d.stage) same ∙ (at ∙ sym (ap settled at)))
+leads l ahead a x (inl (says_question words q at plain are told same)) = unmarked (λ is. plain is.begins) (ap (λ (d : Draft). d.stage) same ∙ (at ∙ sym (ap settled at)))
+leads l ahead a x (inl (says_entry section words head octets at plain are told same)) = unmarked (λ is. plain is.begins) (ap (λ (d : Draft). d.stage) same ∙ sym at)
 leads l ahead a x (inl (says_option text octets at cut is same)) = marked text cut (below octets at is (ap (λ (d : Draft). d.stage) same ∙ at))
 leads l ahead a x (inl (says_cut text octets at cut is same)) = marked text cut (ended octets at is (ap (λ (d : Draft). d.stage) same ∙ ap settled at))
-leads l ahead a x (inr says) = marked says.text says.cut (first says.told says.place says.is (ap (λ (d : Draft). d.stage) says.new_is))
+leads l ahead a x (inr says) = marked says.text says.cut (begun says.told says.place says.is (ap (λ (d : Draft). d.stage) says.new_is))
 
 leads_once : (l : List ℕ) (stage p q : Stage) → Leads l stage p → Leads l stage q → p ≡ q
 leads_once l stage p q (remarked text h k is cut told) (remarked more i j also trimmed says) = remark_once text stage p q h k i j told (subst (λ t. Remarks t stage i q j) (trimmed_once l more text trimmed cut) says)
 leads_once l stage p q (remarked text h k is cut told) (marked more trimmed of_opt) = absurd (no_opt_remark text stage p h k (subst BeginsAsOpt (trimmed_once l more text trimmed cut) (marked_begins more stage q of_opt)) told)
-leads_once l stage p q (remarked text h k is cut told) (other never e) = absurd (never is)
+leads_once l stage p q (remarked text h k is cut told) (unmarked never e) = absurd (never is)
 leads_once l stage p q (marked text cut of_opt) (remarked more i j also trimmed says) = absurd (no_opt_remark more stage q i j (subst BeginsAsOpt (trimmed_once l text more cut trimmed) (marked_begins text stage p of_opt)) says)
 leads_once l stage p q (marked text cut of_opt) (marked more trimmed says) = marked_once text stage p q of_opt (subst (λ t. Marked t stage q) (trimmed_once l more text trimmed cut) says)
-leads_once l stage p q (marked text cut of_opt) (other never e) = absurd (never (marked_remark l text stage p cut of_opt))
-leads_once l stage p q (other never e) (remarked more i j also trimmed says) = absurd (never also)
-leads_once l stage p q (other never e) (marked more trimmed says) = absurd (never (marked_remark l more stage q trimmed says))
-leads_once l stage p q (other never e) (other none f) = e ∙ sym f
+leads_once l stage p q (marked text cut of_opt) (unmarked never e) = absurd (never (marked_remark l text stage p cut of_opt))
+leads_once l stage p q (unmarked never e) (remarked more i j also trimmed says) = absurd (never also)
+leads_once l stage p q (unmarked never e) (marked more trimmed says) = absurd (never (marked_remark l more stage q trimmed says))
+leads_once l stage p q (unmarked never e) (unmarked lack f) = e ∙ sym f
 
 -- After the same stage a line leads to one other.
 stage_once : (l ahead more : List ℕ) (a b x y : Draft) → a.stage ≡ b.stage → SaysThere l ahead a x → SaysThere l more b y → x.stage ≡ y.stage

@@ -7,7 +7,7 @@ ghost use Rattle.domain_make.specs.Parts.{IsNumber16};
 ghost use Rattle.domain_make.specs.Refusals.{NoRemark};
 ghost use Rattle.domain_make.specs.Remarks.{IsTrimmed, IsAfter, BeginsWith, BeginsOtherwise, FindsRest, HasNoOctet, IsCodesLine, IsOpcodeText, IsRcodeText};
 ghost use Rattle.domain_make.specs.Remarks.{AreTold, LacksPart, LacksCodes, SetsTold, flag_words, words_before, BeginsWithFlags, SetsFlags};
-ghost use Rattle.domain_make.specs.Remarks.{IsWithColon, IsHeading, EndsInSection, BeginsAsOpt, IsRefusedRemark, Remarks};
+ghost use Rattle.domain_make.specs.Remarks.{IsWithColon, IsHeading, EndsInSection, BeginsAsOpt, IsRefusedRemark, Remarks, settled};
 ghost use Rattle.domain_make.specs.declared.error.Fault.{Fault};
 ghost use Rattle.domain_make.specs.declared.remark.Flags.{Flags};
 ghost use Rattle.domain_make.specs.declared.remark.Stage.{Stage};

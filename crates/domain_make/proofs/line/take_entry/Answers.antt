@@ -1,15 +1,14 @@
 use Rattle.std.proofs.Common.{◌≡◌, sym, subst, arith, ◌∙◌}
 use Rattle.std.proofs.lemmas.Bool.{false≢true}
 use Rattle.domain_message.specs.declared.section.Section.{Section}
-use Rattle.domain_make.specs.Drafts.{DraftsLine}
 use Rattle.domain_make.specs.Refusals.{IsOutside}
 use Rattle.domain_make.specs.Remarks.{settled}
 use Rattle.domain_make.specs.declared.remark.Stage.{Stage}
 use Rattle.domain_make.specs.declared.remark.Stage.TheVariants.{Questions, Records}
 use Rattle.domain_make.specs.Words.{AreWords, words_at}
-use Rattle.domain_make.proofs.Drafting.{on_ok, takes_nothing}
-use Rattle.domain_make.proofs.Refusing.{refuses_words, refuses_outside_first, only_questions}
-use Rattle.domain_make.proofs.Telling.{err_map, passed_on, if_refused}
+use Rattle.domain_make.proofs.Drafting.{section_ok, takes_nothing}
+use Rattle.domain_make.proofs.Refusing.{refuses_words, refuses_outside_first, section_err, only_questions}
+use Rattle.domain_make.proofs.Telling.{passed_on, if_refused}
 use Rattle.domain_make.proofs.line.take_entry.Goals as goal
 
 pub returns-in_err-found-clause-err : goal.returns-in_err-found-clause-err
@@ -26,10 +25,10 @@ returns-then-is_outside-clause-err g c =
     refuses_outside_first _ _ _ _ _ _ (c.is_outside.ensures.0 c.if-is_outside.true) c.requires (subst (λ ws. AreWords c.args.line.now 0 (words_at ws)) (sym c.as_slice-words.ensures.value) c.in_ok-words.ensures.ok) (omega arith)
 
 pub returns-in-Records-clause-ok : goal.returns-in-Records-clause-ok
-returns-in-Records-clause-ok g c = on_ok _ _ _ (λ takes. subst (λ next. DraftsLine _ _ _ _ next _) c.in-Records.ensures (takes c.args.stage (sym c.in-Records.ensures))) c.take_record.ensures.ok
+returns-in-Records-clause-ok g c = section_ok _ _ _ _ _ _ _ c.in-Records.ensures c.take_record.ensures.ok
 
 pub returns-in-Records-clause-err : goal.returns-in-Records-clause-err
-returns-in-Records-clause-err g c = err_map _ _ _ (λ e lack. lack c.args.stage (sym c.in-Records.ensures)) c.take_record.ensures.err
+returns-in-Records-clause-err g c = section_err _ _ _ _ _ _ c.in-Records.ensures c.take_record.ensures.err
 
 -- Where no records are, questions are.
 asks : (s place : Stage) → (IsOutside s → ⊥) → place ≡ settled s → ((section : Section) → place ≡ Records section → ⊥) → s ≡ Questions

@@ -1,6 +1,6 @@
 use Rattle.std.proofs.Common.{arith, subst}
 use Rattle.domain_make.specs.Opts.{AddsLine}
-use Rattle.domain_make.proofs.Opting.{options_none, options_more, options_cut, options_other, options_end, fewer}
+use Rattle.domain_make.proofs.Opting.{options_none, options_more, options_last, options_end, fewer}
 use Rattle.domain_make.proofs.opt.options_ahead.Goals as goal
 
 pub loop-rest-init : goal.loop-rest-init
@@ -14,7 +14,10 @@ pub loop-rest-smaller : goal.loop-rest-smaller
 loop-rest-smaller c = fewer _ _ _ (omega arith) c.first_line.ensures
 
 pub returns-in-Cut : goal.returns-in-Cut
-returns-in-Cut c = ?
+returns-in-Cut c = record {
+  ok = options_last _ _ _ _ _ _ _ _ c.in-Cut.is (omega arith) c.first_line.ensures c.trimmed.ensures c.in_ok-push_line.ensures.ok c.loop-rest.invariant;
+  err = tt;
+}
 
 pub returns-clause-ok : goal.returns-clause-ok
 returns-clause-ok c = options_end _ _ _ (omega arith) c.loop-rest.invariant

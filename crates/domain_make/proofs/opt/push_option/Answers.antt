@@ -14,15 +14,15 @@ returns-in_default-number_below-clause-ok c =
 
 pub returns-in_default-2-clause-ok : goal.returns-in_default-2-clause-ok
 returns-in_default-2-clause-ok c =
-    (λ octets. no_option_pairs _ _ _ _ octets c.in-Some.ensures c.in-Some-parted.ensures.some c.in-Some-parted.ensures.first (c.in_default-2.ensures.none refl), refl)
+    (λ octets. no_option_pairs _ _ _ _ octets c.in-Some.ensures c.in-Some-parted.ensures.some c.in-Some-parted.ensures.first ((rw c.in_default-2.is at c.in_ok-octets.ensures.none) refl), refl)
 
 pub returns-then-len-gt65535-clause-ok : goal.returns-then-len-gt65535-clause-ok
 returns-then-len-gt65535-clause-ok c =
-    (λ octets. no_long_option _ _ _ _ _ octets c.in-Some.ensures c.in-Some-parted.ensures.some c.in-Some-parted.ensures.first c.in-Some-2.ensures.some (omega arith), refl)
+    (λ octets. no_long_option _ _ _ _ _ octets c.in-Some.ensures c.in-Some-parted.ensures.some c.in-Some-parted.ensures.first (rw c.in-Some-2.is at c.in_ok-octets.ensures.some) (omega arith), refl)
 
 pub returns-clause-ok : goal.returns-clause-ok
 returns-clause-ok c = (
   _,
-  option_is _ _ _ _ _ _ c.in-Some.ensures c.in-Some-parted.ensures.some c.in-Some-number_below.ensures.some c.in-Some-2.ensures.some (omega arith),
-  append_three _ _ _ _ _ _ _ c.in_ok-append.ensures.ok c.in_ok-append-2.ensures.ok c.in_ok-append-3.ensures.ok,
+  option_is _ _ _ _ _ _ c.in-Some.ensures c.in-Some-parted.ensures.some c.in-Some-number_below.ensures.some (rw c.in-Some-2.is at c.in_ok-octets.ensures.some) (omega arith),
+  append_three _ _ _ _ _ _ _ _ _ _ c.to_be_bytes.ensures c.to_be_bytes-2.ensures c.as_slice.ensures.value c.in_ok-append.ensures.ok c.in_ok-append-2.ensures.ok c.in_ok-append-3.ensures.ok,
 )
