@@ -80,8 +80,8 @@ edns_ttl told = upper_of told.code * 16777216 + told.version * 65536 + bit_of to
 abbrev pub IsOtherStatus : EdnsTold → ℕ → Type 0
 IsOtherStatus told rcode = MatchOption told.code ⊥ (λ code. code % 16 ≢ rcode)
 
--- an OPT record of this size and this TTL before the length of its data: the root, the type 41, the size in the place of
--- the class (6.1.2)
+-- an OPT record of this size and this TTL before the length of its data: the root, the type 41, the size in the place
+-- of the class (6.1.2)
 abbrev pub opt_head : ℕ → ℕ → RecordHead
 opt_head size ttl = record { owner = Root; rtype = 41; class = size; ttl = ttl }
 
