@@ -103,7 +103,7 @@ takes_record c l stage section old new words head octets place plain are says pu
 pub record_ok : {E : Type 0} (c : Bool) (l : List ℕ) (section : Section) (old new : State) (words : List WordAt) (r : Result (Unit {0}) E) → slice_index l 0 ≢ 59 → AreWords l 0 words
     → OnOk r ((head : RecordHead) × (octets : List ℕ) × IsRecordWords l words head octets × PushesRecord c section head (λ _ s. s ≡ octets) old new)
     → OnOk r ((stage : Stage) → settled stage ≡ Records section → DraftsLine c l stage old (Records section) new)
-record_ok c l section old new words (Ok x) plain are h stage place = takes_record c l stage section old new words h.0 h.1 place plain are h.2 h.3
+record_ok c l section old new words (Ok x) plain are h = λ stage place. takes_record c l stage section old new words h.0 h.1 place plain are h.2 h.3
 record_ok c l section old new words (Err e) plain are h = tt
 
 -- What is taken at any stage of the section is at this one.

@@ -222,8 +222,8 @@ pub record_err : {A : Type 0} (comp : Bool) (l : List ℕ) (section : Section) (
     → IfErr r (λ e. IfFault e (NoPushedRecord comp section l words s))
     → IfErr r (λ e. (stage : Stage) → settled stage ≡ Records section → IfFault e (λ f c. (ahead : List ℕ) → RefusesLine comp l ahead stage s f c))
 record_err comp l section words s (Ok x) plain are some lack = tt
-record_err comp l section words s (Err (Refused f c)) plain are some lack stage place = refuses_record comp l stage section words s f c place plain are some lack
-record_err comp l section words s (Err Memory) plain are some lack stage place = tt
+record_err comp l section words s (Err (Refused f c)) plain are some lack = λ stage place. refuses_record comp l stage section words s f c place plain are some lack
+record_err comp l section words s (Err Memory) plain are some lack = λ stage place. tt
 
 -- An OPT record whose response code is another one than the header's, or that isn't pushed.
 pub refuses_opt : (comp : Bool) (l ahead text : List ℕ) (stage : Stage) (s : State) (told : EdnsTold) (f : Fault) (c : ℕ) → settled stage ≡ Records Additional → IsTrimmed l text → IsEdnsLine text told

@@ -32,5 +32,5 @@ pub returns-clause-ok : goal.returns-clause-ok
 returns-clause-ok c = (
   _,
   cut_is _ _ _ _ _ _ _ _ c.in-Some.ensures c.in-Some-before.ensures c.in-Some-parted.ensures.some c.octets_from.ensures c.in-Some-number_below.ensures.some (rw c.in-Some-2.is at c.in_ok-octets.ensures.some) (subst (λ os. IsCut os c.in-Some-number_below.count) c.as_slice.ensures.value (c.is_cut.ensures.0 c.if-not-is_cut.false)),
-  c.in_ok-append.ensures.ok ∙ ap (λ z. c.args.options.now.items ++ z) c.as_slice.ensures.value,
+  c.in_ok-append.ensures.ok ∙ ap (λ z. c.args.options.now.items ++ z) c.as_slice-2.ensures.value,
 )
