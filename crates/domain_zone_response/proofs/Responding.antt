@@ -15,8 +15,9 @@ use Rattle.domain_message_builder.specs.Pushes.{PushesQuestion, with_header, rec
 use Rattle.domain_message_builder.specs.Reading.{IsMessageOf}
 use Rattle.domain_message_builder.specs.State.{State}
 use Rattle.domain_zone.specs.Headers.{HasAuthority, response_code}
-use Rattle.domain_zone_answer.specs.Sections.{Sections, AreSections}
-use Rattle.domain_zone_laws.specs.Answers.{Outcome, Answers}
+use Rattle.domain_zone_answer.specs.Sections.{Sections}
+use Rattle.domain_zone_chain.specs.ChainSections.{Follows}
+use Rattle.domain_zone_laws.specs.Answers.{Outcome}
 use Rattle.domain_zone_laws.specs.Zone.{Zone, RRset}
 use Rattle.domain_zone_response.specs.Finishing.{FinishesWith, BeginsWith, RefusesBy, Answered}
 use Rattle.domain_zone_response.specs.Headers.{IsResponseHeader, RespondsTo}
@@ -95,10 +96,10 @@ is_answered c z class limit aside capacity room query m q opt a b made id high l
     let now : Holds c b it = subst (λ s. Holds c s it) (sym x.new_is) before in (
       it,
       record {
-        outcome = x.outcome;
-        answers = x.answers;
+        first = x.first;
+        last = x.last;
         all = x.all;
-        are_all = x.are_all;
+        follows = x.follows;
         whole = x.whole;
         answer = x.puts.answer;
         authority = x.puts.authority;
@@ -108,7 +109,7 @@ is_answered c z class limit aside capacity room query m q opt a b made id high l
         kept = kept_as _ _ _ _ _ _ _ _ (λ section s why. less_room c class x.puts.answer x.puts.authority x.puts.additional capacity room x.asked section s le why) x.puts.kept;
         aa = x.aa;
         aa_is = x.aa_is;
-        header_is = by_query query b.header m x.aa (not x.whole) (response_code x.outcome) id high low x.header_is;
+        header_is = by_query query b.header m x.aa (not x.whole) (response_code x.last) id high low x.header_is;
         content = refl;
       },
       y.reads it now,
@@ -130,26 +131,26 @@ puts_less c k cut all less more b a d le x = record {
 }
 
 -- The question and the sections were pushed, and the header was set.
-pub answers_question : (c : Bool) (z : Zone) (class k : ℕ) (query h : Header) (q : QuestionFields) (ls : List (List ℕ)) (t code : ℕ) (outcome : Outcome) (all : Sections) (all_there aa tc : Bool) (less more : ℕ) (a b d e : State)
-    → ls ≡ q.name → t ≡ q.rtype → k ≡ class → code ≡ response_code outcome → tc ≡ not all_there → Answers z ls t outcome → AreSections z ls outcome all → PushesQuestion c q a b → less ≤ more
-    → Puts c k (cut_of outcome) all more all_there b d → IsTrue aa ↔ HasAuthority outcome → RespondsTo query aa tc code h → e ≡ with_header h d → Answered c z class query q less a e
-answers_question c z class k query h q ls t code outcome all all_there aa tc less more a b d e name rtype of_class of_code of_tc answers sections pushed le puts authority said is =
+pub answers_question : (c : Bool) (z : Zone) (class k : ℕ) (query h : Header) (q : QuestionFields) (ls : List (List ℕ)) (t code : ℕ) (first last : Outcome) (all : Sections) (all_there aa tc : Bool) (less more : ℕ) (a b d e : State)
+    → ls ≡ q.name → t ≡ q.rtype → k ≡ class → code ≡ response_code last → tc ≡ not all_there → Follows z ls t first last all → PushesQuestion c q a b → less ≤ more
+    → Puts c k (cut_of last) all more all_there b d → IsTrue aa ↔ HasAuthority first → RespondsTo query aa tc code h → e ≡ with_header h d → Answered c z class query q less a e
+answers_question c z class k query h q ls t code first last all all_there aa tc less more a b d e name rtype of_class of_code of_tc follows pushed le puts authority said is =
     let header : e.header ≡ h = ap (λ (s : State). s.header) is in
     record {
-      outcome = outcome;
-      answers = subst (λ l. Answers z l q.rtype outcome) name (subst (λ n. Answers z ls n outcome) rtype answers);
+      first = first;
+      last = last;
       all = all;
-      are_all = subst (λ l. AreSections z l outcome all) name sections;
+      follows = subst (λ l. Follows z l q.rtype first last all) name (subst (λ n. Follows z ls n first last all) rtype follows);
       whole = all_there;
       asked = b;
       limit_is = pushed.settings.limit;
       aside_is = pushed.settings.reserved;
       holds = λ held. pushed.holds no_content held;
       before = d;
-      puts = puts_less c class (cut_of outcome) all less more all_there b d le (subst (λ n. Puts c n (cut_of outcome) all more all_there b d) of_class puts);
+      puts = puts_less c class (cut_of last) all less more all_there b d le (subst (λ n. Puts c n (cut_of last) all more all_there b d) of_class puts);
       aa = aa;
       aa_is = authority;
-      header_is = subst (λ x. RespondsTo query aa (not all_there) (response_code outcome) x) (sym header) (subst (λ n. RespondsTo query aa (not all_there) n h) of_code (subst (λ x. RespondsTo query aa x code h) of_tc said));
+      header_is = subst (λ x. RespondsTo query aa (not all_there) (response_code last) x) (sym header) (subst (λ n. RespondsTo query aa (not all_there) n h) of_code (subst (λ x. RespondsTo query aa x code h) of_tc said));
       new_is = is ∙ ap (λ x. with_header x d) (sym header);
     }
 
