@@ -1,5 +1,5 @@
-"""A second writer of responses, from RFC 1034 (4.3.2), 1035 (4.1), 2181 (9), 3225, 4035 (3.1.6), 6891, 6895 (3.1) and
-9471. The sections are those of the second reader of zones; here they become octets."""
+"""A second writer of responses, from RFC 1034 (4.3.2), 1035 (4.1), 2181 (9), 2930 (4), 3225, 4035 (3.1.6), 6891, 6895
+(3.1) and 9471. The sections are those of the second reader of zones; here they become octets."""
 
 import pathlib
 import struct
@@ -18,8 +18,9 @@ def wire(labels):
 
 
 def with_data(rtype, rrset, owner=None, ttl=None):
-    """An RRset of a section, in place of its text."""
-    return owner or rrset.owner, rtype, rrset.ttl if ttl is None else ttl, sorted(rrset.spellings)
+    """An RRset of a section, in place of its text: its owner, its type, and the TTL and data of each record."""
+    records = [(own if ttl is None else ttl, data) for own, data in rrset.records]
+    return owner or rrset.owner, rtype, records
 
 
 zones.shown = with_data
@@ -114,10 +115,10 @@ class Writer:
         self.name(name)
         self.octets += struct.pack(">HH", rtype, rclass)
 
-    def rrset(self, owner, rtype, ttl, data):
-        for it in data:
+    def rrset(self, owner, rtype, records):
+        for ttl, data in records:
             self.name(zones.labels_of(owner))
-            self.octets += struct.pack(">HHIH", rtype, 1, ttl, len(it)) + it
+            self.octets += struct.pack(">HHIH", rtype, 1, ttl, len(data)) + data
 
 
 def refusal(query):
@@ -131,7 +132,7 @@ def refusal(query):
     _, rtype, rclass = query.questions[0]
     if rclass != 1:
         return REFUSED
-    if 251 <= rtype <= 254:
+    if rtype == 249 or 251 <= rtype <= 254:
         return NOTIMP
     if rtype in (0, zones.OPT, 65535) or 128 <= rtype <= 250:
         return FORMERR
@@ -168,7 +169,7 @@ def fill(writer, sections, room):
                     return writer, counts, True
                 break
             writer = more
-            counts[section] += len(it[3])
+            counts[section] += len(it[2])
     return writer, counts, False
 
 
@@ -192,7 +193,7 @@ def response(zone, octets, stream, size):
         for it in sections[0]:
             if isinstance(it, str):
                 owner, kind, ttl, target = it.split("/")
-                sections[0][1] = owner, int(kind), int(ttl), [wire(zones.labels_of(target))]
+                sections[0][1] = owner, int(kind), [(int(ttl), wire(zones.labels_of(target)))]
         said = zones.header_of(answer)
         aa, code = "aa=1" in said, int(said.split("rcode=")[1])
         writer, counts, cut = fill(writer, sections, room)
@@ -200,6 +201,6 @@ def response(zone, octets, stream, size):
         ttl = code >> 4 << 24 | (edns[2] & 0x8000 if edns else 0)
         writer.octets += b"\0" + struct.pack(">HHIH", zones.OPT, own, ttl, 0)
         counts[2] += 1
-    flags = 0x8000 | query.flags & 0x7910 | aa << 10 | cut << 9 | code & 15
+    flags = 0x8000 | query.flags & 0x7900 | aa << 10 | cut << 9 | code & 15
     writer.octets[:12] = struct.pack(">HHHHHH", query.id, flags, asked, *counts)
     return bytes(writer.octets)

@@ -21,7 +21,7 @@ drawing = importlib.util.module_from_spec(found)
 found.loader.exec_module(drawing)
 
 A, NS, CNAME, SOA, MX, TXT, AAAA, DNAME, OPT = 1, 2, 5, 6, 15, 16, 28, 39, 41
-IXFR, AXFR, MAILB, MAILA, ANY = 251, 252, 253, 254, 255
+TKEY, IXFR, AXFR, MAILB, MAILA, ANY = 249, 251, 252, 253, 254, 255
 NOTIFY, UPDATE = 4, 5
 RD, CD, DO = 0x0100, 0x0010, 0x8000
 UDP, TCP, OWN = "udp", "tcp", 1232
@@ -77,14 +77,14 @@ LAST, TOO_LONG = ([("huge.example.", TXT, bytes([it]) + b"%0*d" % (it, 244))] fo
 # queries, with what must come: None, or the two octets of flags and the four counts.
 TOLD = [
     (
-        "RFC 1035, 4.1.1; RFC 4035, 3.1.6 and 3.2.2: the identifier, the opcode, RD and CD are those of the query",
+        "RFC 1035, 4.1.1; RFC 4035, 3.1.6: the identifier, the opcode and RD are those of the query, and CD is clear",
         SMALL,
         UDP,
         [
             (query(*WWW), "8500 1 1 0 0"),
             (query(*WWW, flags=0), "8400 1 1 0 0"),
-            (query(*WWW, flags=CD), "8410 1 1 0 0"),
-            (query(*WWW, flags=0x07F0), "8510 1 1 0 0"),
+            (query(*WWW, flags=CD), "8400 1 1 0 0"),
+            (query(*WWW, flags=0x07F0), "8500 1 1 0 0"),
             (query("alias.example.", A), "8500 1 1 0 0"),
             (query("a.old.example.", A), "8500 1 2 0 0"),
             (query("www.example.", AAAA), "8500 1 0 1 0"),
@@ -121,12 +121,12 @@ TOLD = [
         ],
     ),
     (
-        "RFC 6895, 3.1: types that aren't asked for, or that aren't served",
+        "RFC 2930, 4; RFC 6895, 3.1: types that aren't asked for, or that aren't served",
         SMALL,
         UDP,
         [
-            *((query("www.example.", it), "8104 1 0 0 0") for it in (IXFR, AXFR, MAILB, MAILA)),
-            *((query("www.example.", it), "8101 1 0 0 0") for it in (0, OPT, 128, 249, 250, 65535)),
+            *((query("www.example.", it), "8104 1 0 0 0") for it in (TKEY, IXFR, AXFR, MAILB, MAILA)),
+            *((query("www.example.", it), "8101 1 0 0 0") for it in (0, OPT, 128, 248, 250, 65535)),
             *((query("www.example.", it), "8500 1 0 1 0") for it in (127, 256, 65534)),
         ],
     ),
@@ -252,8 +252,7 @@ def told_rows():
     """The rows with headers beside them, which the second writer has to give."""
     for heading, rows, sent, asked in TOLD:
         zone, apex = zones.Zone("example."), "example."
-        rows = [(apex, SOA, drawing.SOA_DATA), (apex, NS, NAME("ns.example.net.")), *rows]
-        records = [(owner, rtype, 3600, data) for owner, rtype, data in rows]
+        records = drawing.records_of(apex, rows)
         for it in records:
             zone.insert(*it)
         for octets, wanted in asked:
@@ -269,8 +268,7 @@ def zone_rows():
     """The zones of the RFCs that the table of zones has, each asked without and with EDNS, and with each octet cut."""
     for heading, apex, rows, asked in drawing.told_rows():
         zone = zones.Zone(apex)
-        rows = [(apex, SOA, drawing.SOA_DATA), (apex, NS, NAME("ns.example.net.")), *rows]
-        records = [(owner, rtype, 3600, data) for owner, rtype, data in rows]
+        records = drawing.records_of(apex, rows)
         for it in records:
             zone.insert(*it)
         sent = [query(*it[:2]) for it in asked] + [query(*it[:2], opts=edns(1232, DO)) for it in asked]

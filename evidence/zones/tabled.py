@@ -43,11 +43,6 @@ class Case:
         data = ((*it[:3], dns.rdata.from_wire(dns.rdataclass.IN, it[1], it[3], 0, len(it[3]))) for it in self.records)
         return frozenset((dns.name.from_text(owner), ttl, rtype, it) for owner, rtype, ttl, it in data)
 
-    def read(self):
-        """The records as dnspython has them."""
-        data = ((*it[:3], dns.rdata.from_wire(dns.rdataclass.IN, it[1], it[3], 0, len(it[3]))) for it in self.records)
-        return frozenset((dns.name.from_text(owner), ttl, rtype, it) for owner, rtype, ttl, it in data)
-
     def has_valid_servers(self):
         """Whether the data of NS records are names: a server loads no others, and the table has some."""
         return all(is_data(NS, data) for _, rtype, _, data in self.records if rtype == NS)
@@ -89,7 +84,7 @@ def valid_data(rtype, data, apex):
         return bytes.fromhex("0001 08 02") + some
     if rtype == KEY:
         return bytes.fromhex("0000 03 08") + some
-    if rtype == RRSIG:
+    if rtype == RRSIG and not is_data(RRSIG, data):
         return bytes.fromhex(f"0001 08 {labels:02x} 00000000 7fffffff 00000001 0001") + signer + some
     if rtype == NSEC:
         return signer + bytes.fromhex("00 05 00000000") + bytes([1 << some[0] % 8])

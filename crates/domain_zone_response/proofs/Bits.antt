@@ -27,26 +27,23 @@ high_bits a b c d e f op aa tc rd v w x y z = record {
   rd_is = z.set;
 }
 
--- the octet with CD and a response code
-pub record LowBits (cd rcode d : ℕ) : Type 0 where
+-- the octet with a response code alone
+pub record LowBits (rcode d : ℕ) : Type 0 where
   pub ra : bit 128 d ≡ 0
   pub z : bit 64 d ≡ 0
   pub ad : bit 32 d ≡ 0
-  pub cd_is : bit 16 d ≡ cd
+  pub cd_is : bit 16 d ≡ 0
   pub rcode_is : bits 1 16 d ≡ rcode
 
-pub low_bits : (a b c cd rcode : ℕ) → a ≡ 0 → SetsBits 16 2 cd a b → SetsBits 1 16 rcode b c → LowBits cd rcode c
-low_bits a b c cd rcode zero x y = record {
-  ra = omega (arith, zero, x.set, x.below, x.above, y.set, y.below, y.above);
-  z = omega (arith, zero, x.set, x.below, x.above, y.set, y.below, y.above);
-  ad = omega (arith, zero, x.set, x.below, x.above, y.set, y.below, y.above);
-  cd_is = omega (arith, zero, x.set, x.below, x.above, y.set, y.below, y.above);
-  rcode_is = y.set;
+pub low_bits : (a b rcode : ℕ) → a ≡ 0 → SetsBits 1 16 rcode a b → LowBits rcode b
+low_bits a b rcode zero x = record {
+  ra = omega (arith, zero, x.above);
+  z = omega (arith, zero, x.above);
+  ad = omega (arith, zero, x.above);
+  cd_is = omega (arith, zero, x.above);
+  rcode_is = x.set;
 }
 
 -- a bit is 0 or 1
 pub small_low : (n : ℕ) → bit 1 n < 2
 small_low n = omega arith
-
-pub small_cd : (n : ℕ) → bit 16 n < 2
-small_cd n = omega arith

@@ -1,10 +1,12 @@
 -- Which RRsets of its sections a response has, where not all fit.
-use Rattle.std.specs.Prelude.{◌≡◌, ℕ, ◌<◌, ◌≤◌, Bool, true, false, List, [], ◌∷◌, ◌++◌, length, take}
+use Rattle.std.specs.Prelude.{◌≡◌, ℕ, ◌+◌, ◌<◌, ◌≤◌, Bool, true, false, List, [], ◌∷◌, ◌++◌, length, take, Option, Some}
 use Rattle.domain_label.specs.Wire.{Root}
 use Rattle.domain_list.specs.Ends.{EndsWith}
 use Rattle.domain_message.specs.declared.section.Section.{Section}
 use Rattle.domain_message.specs.declared.section.Section.TheVariants.{Answer, Authority, Additional}
 use Rattle.domain_message_builder.specs.Contents.{Content, Holds}
+use Rattle.domain_message_builder.specs.Cuts.{CannotAddOpt}
+use Rattle.domain_message_builder.specs.Opt.{Opt}
 use Rattle.domain_message_builder.specs.Pushes.{SameSettings, emptied}
 use Rattle.domain_message_builder.specs.State.{State}
 use Rattle.domain_zone_answer.specs.Sections.{Sections}
@@ -69,3 +71,11 @@ pub record Puts (compresses : Bool) (class : ℕ) (cut : List (List ℕ)) (all :
   pub additional : List RRset
   pub kept : Kept cut all (LeftOut compresses class answer authority additional capacity old) whole answer authority additional
   pub fills : FillsAll compresses class answer authority additional old new
+
+-- Which RRsets the sections of a response have, and whether that are all that are required: those that were pushed. Or
+-- none, where the OPT record has no room in the target after these, though the limit leaves it some (RFC 6891, 7).
+pub data Keeps (compresses : Bool) (class : ℕ) (cut : List (List ℕ)) (all : Sections) (opt : Option Opt) (capacity : ℕ) (old : State) : Bool → List RRset → List RRset → List RRset → Type 0 where
+  pushed : (whole : Bool) (answer authority additional : List RRset) → Kept cut all (LeftOut compresses class answer authority additional capacity old) whole answer authority additional
+      → Keeps compresses class cut all opt capacity old whole answer authority additional
+  no_opt : (o : Opt) (whole : Bool) (at : State) (room : ℕ) → opt ≡ Some o → Puts compresses class cut all capacity whole old at → length at.octets + 11 ≤ at.limit → capacity ≤ room → CannotAddOpt o room at
+      → Keeps compresses class cut all opt capacity old false [] [] []

@@ -37,12 +37,12 @@ header_code opcode (Ok None) = opcode_code opcode None
 header_code opcode (Ok (Some opt)) = if nat_lt 0 (edns_version (opt_ttl opt)) then Some 16 else opcode_code opcode None
 header_code opcode (Err e) = opcode_code opcode (Some 1)
 
--- The response code of a question for this type: NOTIMP for IXFR, AXFR, MAILB and MAILA, FORMERR for another meta
--- type, 0 and 65,535 (RFC 6895, 3.1), and none for ANY and types of data.
+-- The response code of a question for this type: NOTIMP for TKEY (RFC 2930, 4), IXFR, AXFR, MAILB and MAILA, FORMERR
+-- for another meta type, 0 and 65,535 (RFC 6895, 3.1), and none for ANY and types of data.
 abbrev pub type_code : ℕ → Option ℕ
 type_code t =
     if t == 255 then None else
-    (if nat_lt 250 t && nat_lt t 256 then Some 4 else
+    (if (t == 249) || (nat_lt 250 t && nat_lt t 256) then Some 4 else
     (if (t == 0) || ((t == 41) || (t == 65535)) then Some 1 else
     (if nat_lt 127 t && nat_lt t 256 then Some 1 else None)))
 
@@ -62,6 +62,10 @@ pub data Asks (m : List ℕ) (class : ℕ) (asked : Asked) : Result QuestionFiel
   of_class : (q : QuestionFields) → header_code (opcode_of m) asked ≡ None → HasQuestion m q → (q.class ≡ class → ⊥) → Asks m class asked (Err 5)
   of_type : (q : QuestionFields) (code : ℕ) → header_code (opcode_of m) asked ≡ None → HasQuestion m q → q.class ≡ class → type_code q.rtype ≡ Some code → Asks m class asked (Err code)
   asks : (q : QuestionFields) → header_code (opcode_of m) asked ≡ None → HasQuestion m q → q.class ≡ class → type_code q.rtype ≡ None → Asks m class asked (Ok q)
+
+-- A zone of this class answers the query m: it isn't refused.
+abbrev pub IsAnswerable : ℕ → List ℕ → Type 0
+IsAnswerable class m = (asked : Asked) × TellsOpt m asked × (q : QuestionFields) × Asks m class asked (Ok q)
 
 -- A question as contracts see it, or a response code.
 abbrev pub asked_fields : {O : Type 0} {g : Ghosts O} → Result (Question (ParsedName O g)) ℕ → Result QuestionFields ℕ

@@ -1,11 +1,12 @@
 -- Which message answers a query.
-use Rattle.std.specs.Prelude.{◌≡◌, ℕ, ◌≤◌, ◌⊎◌, ◌/◌, ◌%◌, ◌↔◌, Bool, not, false, IsTrue, List, [], ◌∷◌, length, slice_index, Result, Ok, Err}
+use Rattle.std.specs.Prelude.{◌≡◌, ℕ, ◌≤◌, ◌⊎◌, ◌/◌, ◌%◌, ◌↔◌, Bool, not, false, IsTrue, List, [], ◌∷◌, ◌++◌, length, drop, slice_index, Option, Result, Ok, Err}
 use Rattle.domain_header.specs.Numbers.{number16}
 use Rattle.domain_header.specs.declared.flags.Header.{Header}
 use Rattle.domain_message.specs.Entries.{QuestionFields}
 use Rattle.domain_message_builder.specs.Answers.{BeginsWithQuestion, HasNoQuestion}
-use Rattle.domain_message_builder.specs.Contents.{Content, Holds}
+use Rattle.domain_message_builder.specs.Contents.{Content, Holds, AsksIn, blank_header}
 use Rattle.domain_message_builder.specs.Cuts.{with_opt}
+use Rattle.domain_message_builder.specs.Opt.{Opt}
 use Rattle.domain_message_builder.specs.Reading.{IsMessageOf}
 use Rattle.domain_message_builder.specs.State.{State}
 use Rattle.domain_zone.specs.Headers.{HasAuthority, response_code}
@@ -14,13 +15,17 @@ use Rattle.domain_zone_laws.specs.Answers.{Outcome, Answers}
 use Rattle.domain_zone_laws.specs.Zone.{Zone, RRset}
 use Rattle.domain_zone_response.specs.Edns.{response_limit, response_opt, opt_len}
 use Rattle.domain_zone_response.specs.Headers.{IsResponseHeader}
-use Rattle.domain_zone_response.specs.Included.{cut_of, Kept, LeftOut, holding}
+use Rattle.domain_zone_response.specs.Included.{cut_of, Keeps, holding}
 use Rattle.domain_zone_response.specs.Queries.{Asked, TellsOpt, Asks}
 use Rattle.domain_zone_response.specs.declared.edns.Server.{Server}
 
+-- these questions alone
+abbrev pub asking : List QuestionFields → Content
+asking qs = record { questions = qs; answers = []; authority = []; additional = [] }
+
 -- the question q alone
 abbrev pub only_question : QuestionFields → Content
-only_question q = record { questions = q ∷ []; answers = []; authority = []; additional = [] }
+only_question q = asking (q ∷ [])
 
 -- A message of the question q alone, with this limit, of which so many octets are set aside.
 pub record IsBegun (compresses : Bool) (limit aside : ℕ) (q : QuestionFields) (s : State) : Type 0 where
@@ -30,11 +35,12 @@ pub record IsBegun (compresses : Bool) (limit aside : ℕ) (q : QuestionFields) 
 
 -- The header is that of a response to the query m.
 abbrev pub AnswersQuery : List ℕ → Bool → Bool → ℕ → Header → Type 0
-AnswersQuery m aa tc rcode h = IsResponseHeader (number16 m 0) (slice_index m 2) (slice_index m 3) aa tc rcode h
+AnswersQuery m aa tc rcode h = IsResponseHeader (number16 m 0) (slice_index m 2) aa tc rcode h
 
 -- What a message holds that answers the question q of the query m from the zone z, and its header: the sections of the
--- one outcome, whole or with TC up to the first required RRset that doesn't fit.
-pub record IsAnswered (compresses : Bool) (z : Zone) (class limit aside capacity : ℕ) (m : List ℕ) (q : QuestionFields) (header : Header) (it : Content) : Type 0 where
+-- one outcome, whole or with TC up to the first required RRset that doesn't fit. Or none of them, with TC, where they
+-- leave no room for the OPT record.
+pub record IsAnswered (compresses : Bool) (z : Zone) (class limit capacity : ℕ) (opt : Option Opt) (m : List ℕ) (q : QuestionFields) (header : Header) (it : Content) : Type 0 where
   pub outcome : Outcome
   pub answers : Answers z q.name q.rtype outcome
   pub all : Sections
@@ -44,8 +50,8 @@ pub record IsAnswered (compresses : Bool) (z : Zone) (class limit aside capacity
   pub authority : List RRset
   pub additional : List RRset
   pub old : State
-  pub begun : IsBegun compresses limit aside q old
-  pub kept : Kept (cut_of outcome) all (LeftOut compresses class answer authority additional capacity old) whole answer authority additional
+  pub begun : IsBegun compresses limit (opt_len opt) q old
+  pub kept : Keeps compresses class (cut_of outcome) all opt capacity old whole answer authority additional
   pub aa : Bool
   pub aa_is : IsTrue aa ↔ HasAuthority outcome
   pub header_is : AnswersQuery m aa (not whole) (response_code outcome) header
@@ -60,12 +66,25 @@ pub record IsRefused (m : List ℕ) (code : ℕ) (header : Header) (it : Content
   pub questions : List QuestionFields
   pub repeats : RepeatsQuestion m questions
   pub header_is : AnswersQuery m false false (code % 16) header
-  pub content : it ≡ record { questions = questions; answers = []; authority = []; additional = [] }
+  pub content : it ≡ asking questions
+
+-- A header and the first question of the query m, if it has one, may be composed into these octets: where names aren't
+-- compressed, the name's wire format with the case that the query has.
+pub data AskedIn (compresses : Bool) (m : List ℕ) : List ℕ → Type 0 where
+  question : (q : QuestionFields) (s : List ℕ) → BeginsWithQuestion m q → AsksIn compresses q blank_header s → AskedIn compresses m (blank_header ++ s)
+  none : HasNoQuestion m → AskedIn compresses m blank_header
+
+-- After its header a message starts with such octets.
+pub record StartsAsked (compresses : Bool) (m made : List ℕ) : Type 0 where
+  pub asked : List ℕ
+  pub allowed : AskedIn compresses m asked
+  pub rest : List ℕ
+  pub after_header : drop 12 made ≡ drop 12 asked ++ rest
 
 -- The content of a response to a query that asks this, with its header.
 abbrev pub HasContent : Bool → Zone → ℕ → Server → ℕ → List ℕ → Asked → Result QuestionFields ℕ → Header → Content → Type 0
 HasContent compresses z class server capacity m asked (Ok q) header it =
-    IsAnswered compresses z class (response_limit server asked) (opt_len (response_opt server.payload_size asked 0)) capacity m q header it
+    IsAnswered compresses z class (response_limit server asked) capacity (response_opt server.payload_size asked 0) m q header it
 HasContent compresses z class server capacity m asked (Err code) header it = IsRefused m code header it
 
 -- the upper bits of the response code: those above the header's four (RFC 6891, 6.1.3)
@@ -74,7 +93,7 @@ upper_bits (Ok q) = 0
 upper_bits (Err code) = code / 16
 
 -- The octets `made` are the response to the query m from the zone z: a reader finds this header, these entries in
--- their sections, the OPT record last, and nothing else.
+-- their sections, the OPT record last, and nothing else. The question is spelled as in the query.
 pub record Responds (compresses : Bool) (z : Zone) (class : ℕ) (server : Server) (capacity : ℕ) (m made : List ℕ) : Type 0 where
   pub asked : Asked
   pub tells : TellsOpt m asked
@@ -85,3 +104,4 @@ pub record Responds (compresses : Bool) (z : Zone) (class : ℕ) (server : Serve
   pub has : HasContent compresses z class server capacity m asked question header it
   pub reads : IsMessageOf header (with_opt (response_opt server.payload_size asked (upper_bits question)) it) made
   pub within : length made ≤ response_limit server asked
+  pub spelled : StartsAsked compresses m made

@@ -1,30 +1,27 @@
 -- Why there is no room for a response.
-use Rattle.std.specs.Prelude.{◌≡◌, ℕ, ◌+◌, ◌<◌, ◌≤◌, ◌⊎◌, Bool, List, [], length, Option, Some}
+use Rattle.std.specs.Prelude.{◌≡◌, ℕ, ◌+◌, ◌<◌, ◌≤◌, ◌⊎◌, Bool, List, length, Option, Some}
 use Rattle.domain_message.specs.Entries.{QuestionFields}
 use Rattle.domain_message_builder.specs.Answers.{BeginsWithQuestion, CannotAsk}
 use Rattle.domain_message_builder.specs.Builders.{state, target_room}
-use Rattle.domain_message_builder.specs.Contents.{Content, Holds, no_content}
-use Rattle.domain_message_builder.specs.Cuts.{CannotAddOpt}
+use Rattle.domain_message_builder.specs.Contents.{Holds, no_content}
+use Rattle.domain_message_builder.specs.Cuts.{CannotAddOpt, HasNoRoomFor}
 use Rattle.domain_message_builder.specs.Opt.{Opt}
+use Rattle.domain_message_builder.specs.SectionStarts.{start_of}
 use Rattle.domain_message_builder.specs.State.{State}
 use Rattle.domain_message_builder.specs.declared.builder.MessageBuilder.{MessageBuilder}
+use Rattle.domain_message.specs.declared.section.Section.TheVariants.{Answer}
 use Rattle.domain_rdata.specs.Members.{ComposerMembers}
-use Rattle.domain_zone_response.specs.Edns.{response_limit}
+use Rattle.domain_zone_response.specs.Edns.{response_opt, opt_len}
 use Rattle.domain_zone_response.specs.Queries.{Asked, TellsOpt}
+use Rattle.domain_zone_response.specs.Responses.{AskedIn, RepeatsQuestion, asking}
 use Rattle.domain_zone_response.specs.declared.edns.Server.{Server}
 
--- In a message of at most `limit` octets, in a target of at least this capacity, the first question of the query m
--- can't be pushed; or an OPT record without options can't be pushed after the rest.
-pub data LacksEntry (compresses : Bool) (m : List ℕ) (limit capacity : ℕ) : Type 0 where
-  no_question : (q : QuestionFields) (s : State) (room : ℕ) → BeginsWithQuestion m q → Holds compresses s no_content → s.limit ≡ limit → capacity ≤ room → CannotAsk compresses q s room
-      → LacksEntry compresses m limit capacity
-  no_opt : (o : Opt) (it : Content) (s : State) (room : ℕ) → o.options ≡ [] → Holds compresses s it → s.limit ≡ limit → capacity ≤ room → CannotAddOpt o room s → LacksEntry compresses m limit capacity
-
--- The target isn't empty, or has no room for the header's twelve octets, or for the question or the OPT record.
+-- The target isn't empty, or has no room for the header's twelve octets, or none for these, the first question of the
+-- query and the OPT record of the response.
 pub data LacksRoom (compresses : Bool) (server : Server) (capacity : ℕ) (octets m : List ℕ) : Type 0 where
   not_empty : 0 < length octets → LacksRoom compresses server capacity octets m
   no_header : capacity < 12 → LacksRoom compresses server capacity octets m
-  no_entry : (asked : Asked) → TellsOpt m asked → LacksEntry compresses m (response_limit server asked) capacity → LacksRoom compresses server capacity octets m
+  no_entry : (asked : Asked) (u : List ℕ) → TellsOpt m asked → AskedIn compresses m u → capacity < length u + opt_len (response_opt server.payload_size asked 0) → LacksRoom compresses server capacity octets m
 
 -- No message of at most `limit` octets can be begun on the target, of which so many are set aside.
 abbrev pub CannotBegin : {T : Type 0} → ComposerMembers T → T → ℕ → ℕ → Type 0
@@ -35,16 +32,21 @@ abbrev pub OptDoesNotFit : {T E : Type 0} {g : _} {h : _} {i : _} {j : _} {k : _
     → Option Opt → MessageBuilder T E g h i j k l → Type 0
 OptDoesNotFit opt b = (o : Opt) × (opt ≡ Some o) × CannotAddOpt o (target_room b) (state b)
 
+-- The OPT record has no room, even directly after the question.
+abbrev pub OptNeverFits : {T E : Type 0} {g : _} {h : _} {i : _} {j : _} {k : _} {l : _}
+    → Option Opt → MessageBuilder T E g h i j k l → Type 0
+OptNeverFits opt b =
+    (o : Opt) × (opt ≡ Some o) × HasNoRoomFor o (start_of Answer (state b).starts) (target_room b) (state b).limit
+
 -- The question can't be pushed.
 abbrev pub CannotBeAsked : {T E : Type 0} {g : _} {h : _} {i : _} {j : _} {k : _} {l : _}
     → QuestionFields → MessageBuilder T E g h i j k l → Type 0
 CannotBeAsked {g = g} q b = CannotAsk g.compresses q (state b) (target_room b)
 
--- One of the entries of a refusal can't be: the question, or the OPT record after it.
+-- One of the entries of a refusal can't be: the question, or the OPT record after it, where the message held nothing.
 pub data LacksEntryOf (compresses : Bool) (m : List ℕ) (opt : Option Opt) (capacity : ℕ) (a : State) : Type 0 where
-  question_of : (q : QuestionFields) (s : State) (room : ℕ) → BeginsWithQuestion m q → (Holds compresses a no_content → Holds compresses s no_content) → s.limit ≡ a.limit → capacity ≤ room → CannotAsk compresses q s room
-      → LacksEntryOf compresses m opt capacity a
-  opt_of : (o : Opt) (it : Content) (s : State) (room : ℕ) → opt ≡ Some o → (Holds compresses a no_content → Holds compresses s it) → s.limit ≡ a.limit → capacity ≤ room → CannotAddOpt o room s
+  question_of : (q : QuestionFields) → BeginsWithQuestion m q → CannotAsk compresses q a capacity → LacksEntryOf compresses m opt capacity a
+  opt_of : (o : Opt) (qs : List QuestionFields) (s : State) (room : ℕ) → opt ≡ Some o → RepeatsQuestion m qs → (Holds compresses a no_content → Holds compresses s (asking qs)) → s.limit ≡ a.limit → capacity ≤ room → CannotAddOpt o room s
       → LacksEntryOf compresses m opt capacity a
 
 abbrev pub RefusalDoesNotFit : {T E : Type 0} {g : _} {h : _} {i : _} {j : _} {k : _} {l : _}

@@ -10,7 +10,8 @@ use domain_message_builder::OptBuilder;
 /// What carries a response.
 #[derive(Clone, Copy, Debug, PartialEq, Eq)]
 pub enum Transport {
-    /// A datagram, as UDP has it: what the requestor takes is the limit (RFC 1035, 4.2.1; RFC 6891, 6.2).
+    /// A datagram, as UDP has it. The limit is the smaller of what requestor and server take, each at least 512 octets
+    /// (RFC 6891, 6.2.5), and 512 octets without EDNS (RFC 1035, 4.2.1).
     Datagram,
     /// A stream, as TCP has it: 65,535 octets are the limit (RFC 1035, 4.2.2).
     Stream,
@@ -49,9 +50,9 @@ pub(crate) fn limit_of(server: Server, asked: &Result<Option<OptRecord<'_>>, Opt
     }
 }
 
-/// The OPT record of a response: it has one exactly where the query has one (RFC 6891, 6.1.1). The bit DO is that of
-/// the query (RFC 3225, 3), the version is 0, and there are no options. An OPT record that isn't of the root, or of
-/// which there are two, has no bit DO to copy.
+/// The OPT record of a response: it has one exactly where the query has one and no entry of it is missing (RFC 6891,
+/// 6.1.1). The bit DO is that of the query (RFC 3225, 3), the version is 0, and there are no options. An OPT record
+/// that isn't of the root, or of which there are two, has no bit DO to copy.
 pub(crate) fn opt_for(
     server: Server,
     asked: &Result<Option<OptRecord<'_>>, OptError>,

@@ -6,7 +6,8 @@ use std::fmt;
 /// Why no response is made.
 #[derive(Clone, Copy, Debug, PartialEq, Eq)]
 pub enum ResponseError {
-    /// The target isn't empty, or has no room for a header, the question and an OPT record.
+    /// The target isn't empty, or has no room for the header, the query's first question and the OPT record of the
+    /// response.
     NoRoom,
     /// An allocation failed.
     Memory,

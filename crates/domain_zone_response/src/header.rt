@@ -15,8 +15,8 @@ pub(crate) struct Verdict {
     pub(crate) rcode: Rcode,
 }
 
-/// The header of a response: the identifier, the opcode, RD and CD of the query, QR, and these. RA, Z and AD are clear
-/// (RFC 1035, 4.1.1; RFC 4035, 3.1.6 and 3.2.2).
+/// The header of a response: the identifier, the opcode and RD of the query, QR, and these. RA, Z, AD and CD are clear
+/// (RFC 1035, 4.1.1; RFC 4035, 3.1.6).
 pub(crate) fn response_header(query: Header, verdict: Verdict) -> Header
     ensures { RespondsTo query verdict.aa verdict.tc (rcode_number verdict.rcode) result }
 {
@@ -27,7 +27,6 @@ pub(crate) fn response_header(query: Header, verdict: Verdict) -> Header
     header.set_aa(verdict.aa);
     header.set_tc(verdict.tc);
     header.set_rd(query.rd());
-    header.set_cd(query.cd());
     header.set_rcode(verdict.rcode);
     header
 }

@@ -25,15 +25,15 @@ const BAD_VERSION: u8 = 16;
 
 /// Why a question of this type isn't answered, or `None` where it is.
 ///
-/// IXFR, AXFR, MAILB and MAILA ask for what isn't done here: NOTIMP. No other meta type, nor 0, nor 65,535, is asked
-/// for (RFC 6895, 3.1): FORMERR.
+/// TKEY (RFC 2930, 4), IXFR, AXFR, MAILB and MAILA ask for what isn't done here: NOTIMP. No other meta type, nor 0, nor
+/// 65,535, is asked for (RFC 6895, 3.1): FORMERR.
 fn type_fault(qtype: u16) -> Option<u8>
     ensures { result ≡ type_code qtype }
 {
     if qtype == 255 {
         return None;
     }
-    if qtype > 250 && qtype < 256 {
+    if qtype == 249 || (qtype > 250 && qtype < 256) {
         return Some(NOT_IMPLEMENTED);
     }
     if qtype == 0 || qtype == 41 || qtype == 65535 {
@@ -66,8 +66,8 @@ fn header_fault(header: Header, asked: &Result<Option<OptRecord<'_>>, OptError>)
 /// The question of a query, or the response code by which it is refused.
 ///
 /// In this order: BADVERS where the version of EDNS isn't 0 (RFC 6891, 6.1.3); NOTIMP where the opcode isn't QUERY;
-/// FORMERR where an entry is missing, there is more than one OPT record (6.1.1), or not one question; REFUSED where
-/// the class isn't this one; then those of the type.
+/// FORMERR where an entry is missing, there is more than one OPT record (6.1.1) or one that isn't of the root (6.1.2),
+/// or not one question; REFUSED where the class isn't this one; then those of the type.
 pub(crate) fn question_of<'a>(
     message: &'a Message<&[u8]>,
     asked: &Result<Option<OptRecord<'_>>, OptError>,

@@ -7,12 +7,12 @@ ghost use Rattle.domain_message_builder.specs.Builders.{target_room};
 ghost use Rattle.domain_message_builder.specs.OptViews.{opt_given};
 ghost use Rattle.domain_zone.specs.Kept.{zone_view, zone_class};
 ghost use Rattle.domain_zone_response.specs.Edns.{opt_len};
-ghost use Rattle.domain_zone_response.specs.Queries.{IsNoQuery, asked_fields};
+ghost use Rattle.domain_zone_response.specs.Queries.{IsNoQuery, IsAnswerable, asked_fields};
 ghost use Rattle.domain_zone_response.specs.Responses.{Responds, upper_bits};
-ghost use Rattle.domain_zone_response.specs.Rooms.{LacksRoom, CannotBegin, OptDoesNotFit};
+ghost use Rattle.domain_zone_response.specs.Rooms.{LacksRoom, CannotBegin, OptDoesNotFit, OptNeverFits};
 ghost use Rattle.domain_zone_response.specs.Rooms.{CannotBeAsked, RefusalDoesNotFit};
-ghost use Rattle.domain_zone_response.specs.declared.error.ResponseError.TheVariants.{NoRoom};
-ghost use Rattle.domain_zone_response.specs.Finishing.{Finishes, BeginsMessage, Refuses, AnswersFrom};
+ghost use Rattle.domain_zone_response.specs.declared.error.ResponseError.TheVariants.{NoRoom, Memory};
+ghost use Rattle.domain_zone_response.specs.Finishing.{Finishes, Ends, BeginsMessage, Refuses, AnswersFrom};
 
 use crate::edns::{Server, limit_of, opt_for};
 use crate::error::ResponseError;
@@ -37,6 +37,7 @@ fn finish<Target: Composer + Drop>(
 ) -> Result<Target, ResponseError>
     ensures ok { IfOk result (λ made. Finishes (opt_given opt.entry) message (Target.octets made)) }
     ensures why { IfErr result (λ _. OptDoesNotFit (opt_given opt.entry) message) }
+    ensures error { IfErr result (λ e. e ≡ NoRoom) }
 {
     let mut message = message;
     let Some(opt) = &opt else {
@@ -46,6 +47,22 @@ fn finish<Target: Composer + Drop>(
         return Err(ResponseError::NoRoom);
     }
     Ok(message.finish())
+}
+
+/// Finishes the message of an answer: pushes the OPT record, if there is one. Where it can't be pushed after the other
+/// records, these are taken away first, and TC is set (RFC 6891, 7).
+fn finish_answer<Target: Composer + Drop>(
+    message: MessageBuilder<Target>,
+    opt: Option<OptBuilder<&'static [u8]>>,
+) -> Result<Target, ResponseError>
+    ensures ok { IfOk result (λ made. Ends (opt_given opt.entry) message (Target.octets made)) }
+    ensures why { IfErr result (λ _. OptNeverFits (opt_given opt.entry) message) }
+    ensures error { IfErr result (λ e. e ≡ NoRoom) }
+{
+    match message.finish_or_truncate(Ok(()), opt.as_ref()) {
+        Ok(made) => Ok(made),
+        Err(_refused) => Err(ResponseError::NoRoom),
+    }
 }
 
 /// Begins a message of at most `limit` octets, of which the OPT record's are set aside.
@@ -58,6 +75,7 @@ fn begin<Target: Composer + Drop>(
     ensures capacity { IfOk result (λ it. Target.capacity target ≤ target_room it) }
     ensures why { IfErr result
         (λ _. CannotBegin Target.Composer target limit (opt_len (opt_given opt.now))) }
+    ensures error { IfErr result (λ e. e ≡ NoRoom) }
 {
     let Ok(mut message) = MessageBuilder::with_limit(target, limit) else {
         return Err(ResponseError::NoRoom);
@@ -94,6 +112,7 @@ fn refuse<Target: Composer + Drop>(
         message (Target.octets made)) }
     ensures why { IfErr result
         (λ _. RefusalDoesNotFit (message_octets query.now) (opt_given opt.entry) message) }
+    ensures error { IfErr result (λ e. e ≡ NoRoom) }
 {
     let mut message = message;
     let verdict = Verdict {
@@ -148,6 +167,17 @@ fn answer_from<Target: Composer + Drop>(
 
 /// Appends to an empty target the message that answers a query from a zone. `None` exactly where none is sent: fewer
 /// than twelve octets are no query, and neither is a response.
+///
+/// RRsets that don't fit the limit or the target are left out, with TC where one of them is required (RFC 2181, 9).
+/// Where those before them leave the OPT record no room in the target, they are left out, too.
+///
+/// # Errors
+///
+/// - `NoRoom` only where the target isn't empty, or has no room for the header, the query's first question and the OPT
+///   record that the response has.
+/// - `Memory` only where an allocation failed, of a query that the zone answers.
+///
+/// The target is then dropped.
 pub fn respond_to<Target: Composer + Drop>(
     alloc: Global,
     zone: &Zone,
@@ -161,6 +191,8 @@ pub fn respond_to<Target: Composer + Drop>(
         (Target.capacity target) query.now (Target.octets it))) }
     ensures why { IfErr result (λ e. e ≡ NoRoom → LacksRoom Target.compresses server
         (Target.capacity target) (Target.octets target) query.now) }
+    ensures memory { IfErr result (λ e. e ≡ Memory →
+        IsAnswerable (class_number (zone_class zone.now)) query.now) }
 {
     let Ok(query) = Message::from_octets(query) else {
         return Ok(None);
@@ -180,7 +212,7 @@ pub fn respond_to<Target: Composer + Drop>(
             if let Err(e) = answer_from(alloc, zone, query.header(), question, &mut message) {
                 return Err(e);
             }
-            match finish(message, opt) {
+            match finish_answer(message, opt) {
                 Ok(made) => Ok(Some(made)),
                 Err(e) => Err(e),
             }

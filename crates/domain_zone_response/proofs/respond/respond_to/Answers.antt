@@ -6,27 +6,27 @@ use Rattle.domain_message_builder.specs.Builders.{state}
 use Rattle.domain_message_builder.specs.OptViews.{opt_given}
 use Rattle.domain_zone_response.specs.Queries.{asked_fields}
 use Rattle.domain_zone_response.proofs.Lacking.{lacks_answer, lacks_opt, lacks_refusal}
-use Rattle.domain_zone_response.proofs.Responding.{tells_opt, responds_answered, responds_refused}
+use Rattle.domain_zone_response.proofs.Responding.{tells_opt, responds_answered, responds_refused, answerable}
 use Rattle.domain_zone_response.proofs.respond.respond_to.Goals as goal
 
 pub returns-in-Err-answer_from-clause-why : goal.returns-in-Err-answer_from-clause-why
 returns-in-Err-answer_from-clause-why g c room =
-    lacks_answer _ c.args.server c.opt_of-asked.result _ (question_fields c.in-Ok-question.question) _ _ _ _ _ _ (message_octets c.in-Ok.query) c.args.query.now (state c.in-Ok-begin.message)
+    lacks_answer _ c.args.server c.opt_of-asked.result _ (question_fields c.in-Ok-question.question) (opt_given c.opt_for-opt.result) _ _ _ _ _ (message_octets c.in-Ok.query) c.args.query.now (state c.in-Ok-begin.message)
     (ap (λ b. b.now) c.in-Ok.ensures.ok) (tells_opt _ _ c.opt_of-asked.ensures.ok c.opt_of-asked.ensures.err) c.question_of-question.ensures (ap asked_fields c.in-Ok-question.is)
     c.limit_of.ensures c.in-Ok-begin.ensures.begun c.in-Ok-begin.ensures.capacity (c.in-Err-answer_from.ensures.why room)
 
-pub returns-in-Ok-finish-clause-responds : goal.returns-in-Ok-finish-clause-responds
-returns-in-Ok-finish-clause-responds g c =
-    responds_answered _ _ _ _ c.args.server _ _ _ _ (message_octets c.in-Ok.query) c.args.query.now _ _ c.opt_of-asked.result _ _ _ _ _
+pub returns-in-Ok-finish_answer-clause-responds : goal.returns-in-Ok-finish_answer-clause-responds
+returns-in-Ok-finish_answer-clause-responds g c =
+    responds_answered _ _ _ _ c.args.server _ _ _ _ _ (message_octets c.in-Ok.query) c.args.query.now _ _ c.opt_of-asked.result _ _ _ _ _
     (ap (λ b. b.now) c.in-Ok.ensures.ok) (ap class_number c.class.ensures) (tells_opt _ _ c.opt_of-asked.ensures.ok c.opt_of-asked.ensures.err) c.question_of-question.ensures (ap asked_fields c.in-Ok-question.is)
-    c.opt_for-opt.ensures c.upper_of.ensures c.limit_of.ensures c.header-in-Ok-question.ensures.id c.header-in-Ok-question.ensures.high c.header-in-Ok-question.ensures.low
-    c.in-Ok-begin.ensures.begun c.in-Ok-begin.ensures.capacity c.in_default-answer_from.ensures.answers c.in-Ok-finish.ensures.ok
+    c.opt_for-opt.ensures c.upper_of.ensures c.limit_of.ensures c.header-in-Ok-question.ensures.id c.header-in-Ok-question.ensures.high
+    c.in-Ok-begin.ensures.begun c.in-Ok-begin.ensures.capacity c.answer_from.ensures.capacity c.in_default-answer_from.ensures.answers c.in-Ok-finish_answer.ensures.ok
 
-pub returns-in-Err-finish-clause-why : goal.returns-in-Err-finish-clause-why
-returns-in-Err-finish-clause-why g c room =
-    lacks_opt _ _ _ _ c.args.server c.opt_of-asked.result _ (opt_given c.opt_for-opt.result) _ _ _ _ _ _ _ (message_octets c.in-Ok.query) c.args.query.now _ _
-    (ap (λ b. b.now) c.in-Ok.ensures.ok) (tells_opt _ _ c.opt_of-asked.ensures.ok c.opt_of-asked.ensures.err) c.opt_for-opt.ensures c.limit_of.ensures
-    c.in-Ok-begin.ensures.begun c.in-Ok-begin.ensures.capacity c.in_default-answer_from.ensures.answers c.answer_from.ensures.capacity c.in-Err-finish.ensures.why
+pub returns-in-Err-finish_answer-clause-why : goal.returns-in-Err-finish_answer-clause-why
+returns-in-Err-finish_answer-clause-why g c room =
+    lacks_opt _ _ _ _ _ c.args.server c.opt_of-asked.result _ (question_fields c.in-Ok-question.question) (opt_given c.opt_for-opt.result) _ _ _ _ _ _ (message_octets c.in-Ok.query) c.args.query.now _ _
+    (ap (λ b. b.now) c.in-Ok.ensures.ok) (tells_opt _ _ c.opt_of-asked.ensures.ok c.opt_of-asked.ensures.err) c.question_of-question.ensures (ap asked_fields c.in-Ok-question.is) c.opt_for-opt.ensures c.limit_of.ensures
+    c.in-Ok-begin.ensures.begun c.in-Ok-begin.ensures.capacity c.in_default-answer_from.ensures.answers c.answer_from.ensures.capacity c.in-Err-finish_answer.ensures.why
 
 pub returns-in-Ok-refuse-clause-responds : goal.returns-in-Ok-refuse-clause-responds
 returns-in-Ok-refuse-clause-responds g c =
@@ -38,4 +38,9 @@ pub returns-in-Err-refuse-clause-why : goal.returns-in-Err-refuse-clause-why
 returns-in-Err-refuse-clause-why g c room =
     lacks_refusal _ c.args.server c.opt_of-asked.result (opt_given c.opt_for-opt.result) _ _ _ _ _ (message_octets c.in-Ok.query) c.args.query.now (state c.in-Ok-begin.message)
     (ap (λ b. b.now) c.in-Ok.ensures.ok) (tells_opt _ _ c.opt_of-asked.ensures.ok c.opt_of-asked.ensures.err) c.opt_for-opt.ensures c.limit_of.ensures
-    c.in-Ok-begin.ensures.begun.limit_is c.in-Ok-begin.ensures.begun.holds c.in-Ok-begin.ensures.capacity c.in-Err-refuse.ensures.why
+    c.in-Ok-begin.ensures.begun c.in-Ok-begin.ensures.capacity c.in-Err-refuse.ensures.why
+
+pub returns-in-Err-answer_from-clause-memory : goal.returns-in-Err-answer_from-clause-memory
+returns-in-Err-answer_from-clause-memory g c memory =
+    answerable _ _ (message_octets c.in-Ok.query) c.args.query.now c.opt_of-asked.result _ (question_fields c.in-Ok-question.question)
+    (ap (λ b. b.now) c.in-Ok.ensures.ok) (ap class_number c.class.ensures) (tells_opt _ _ c.opt_of-asked.ensures.ok c.opt_of-asked.ensures.err) c.question_of-question.ensures (ap asked_fields c.in-Ok-question.is)
