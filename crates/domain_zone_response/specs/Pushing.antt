@@ -8,11 +8,11 @@ use Rattle.domain_message_builder.specs.Pushes.{SameSettings, emptied, section_c
 use Rattle.domain_message_builder.specs.Refusals.{RecordTooBig, DataTooLong}
 use Rattle.domain_message_builder.specs.State.{State}
 use Rattle.domain_rdata.specs.ReadBack.{Exceeds}
-use Rattle.domain_zone_laws.specs.Zone.{RRset}
+use Rattle.domain_zone_laws.specs.Zone.{RRset, record_ttl}
 
 -- a record of the RRset s, with these data, as a message has it
 abbrev pub record_of : ℕ → RRset → List ℕ → PushedRecord
-record_of class s d = record { head = record { owner = s.owner; rtype = s.rtype; class = class; ttl = s.ttl }; rdata = d }
+record_of class s d = record { head = record { owner = s.owner; rtype = s.rtype; class = class; ttl = record_ttl s d }; rdata = d }
 
 -- the records of an RRset
 abbrev pub records_of : ℕ → RRset → List PushedRecord
