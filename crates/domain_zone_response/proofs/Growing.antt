@@ -7,33 +7,34 @@ use Rattle.domain_message.specs.declared.section.Section.TheVariants.{Answer, Au
 use Rattle.domain_message_builder.specs.Contents.{RecordHead, PushedRecord, Content, Holds}
 use Rattle.domain_message_builder.specs.Pushes.{SameSettings, record_added, emptied, PushesRecord, Rewinds}
 use Rattle.domain_message_builder.specs.Refusals.{RecordRefused}
+use Rattle.domain_message_builder.specs.Rrsets.{records_added}
 use Rattle.domain_message_builder.specs.State.{State}
 use Rattle.domain_message_builder.specs.declared.error.PushError.{PushError}
 use Rattle.domain_message_builder.specs.declared.error.PushError.TheVariants.{Append, Long, Count, Limit, Order}
 use Rattle.domain_zone_laws.specs.Zone.{RRset}
-use Rattle.domain_zone_response.specs.Pushing.{record_of, records_of, all_records, with_records, Gains, Fills, CannotAdd, DoesNotFit, StopsAt, Stops}
+use Rattle.domain_zone_response.specs.Pushing.{record_of, records_of, all_records, Gains, Fills, CannotAdd, DoesNotFit, StopsAt, Stops}
 use Rattle.domain_zone_response.specs.Pushing.CannotAdd.{no_room, over_limit, too_long, too_many, begun}
 
 -- nothing is added
-pub none_added : (section : Section) (it : Content) → with_records section [] it ≡ it
+pub none_added : (section : Section) (it : Content) → records_added section it [] ≡ it
 none_added Answer it = ap (λ xs. record it { answers = xs }) (append-nil it.answers)
 none_added Authority it = ap (λ xs. record it { authority = xs }) (append-nil it.authority)
 none_added Additional it = ap (λ xs. record it { additional = xs }) (append-nil it.additional)
 
 -- one record is
-added : (section : Section) (it : Content) (r : PushedRecord) → record_added section it r ≡ with_records section (r ∷ []) it
+added : (section : Section) (it : Content) (r : PushedRecord) → record_added section it r ≡ records_added section it (r ∷ [])
 added Answer it r = refl
 added Authority it r = refl
 added Additional it r = refl
 
 -- some are, and then others
-joined : (section : Section) (rs ss : List PushedRecord) (it : Content) → with_records section ss (with_records section rs it) ≡ with_records section (rs ++ ss) it
+joined : (section : Section) (rs ss : List PushedRecord) (it : Content) → records_added section (records_added section it rs) ss ≡ records_added section it (rs ++ ss)
 joined Answer rs ss it = ap (λ xs. record it { answers = xs }) (append_assoc it.answers rs ss)
 joined Authority rs ss it = ap (λ xs. record it { authority = xs }) (append_assoc it.authority rs ss)
 joined Additional rs ss it = ap (λ xs. record it { additional = xs }) (append_assoc it.additional rs ss)
 
 -- and are taken away again
-again : (section : Section) (rs : List PushedRecord) (it : Content) → emptied section (with_records section rs it) ≡ emptied section it
+again : (section : Section) (rs : List PushedRecord) (it : Content) → emptied section (records_added section it rs) ≡ emptied section it
 again Answer rs it = refl
 again Authority rs it = refl
 again Additional rs it = refl
@@ -51,7 +52,7 @@ gains_none c section a = record { settings = same_settings a; holds = λ it is. 
 pub gains_both : (c : Bool) (section : Section) (rs ss : List PushedRecord) (a b d : State) → Gains c section rs a b → Gains c section ss b d → Gains c section (rs ++ ss) a d
 gains_both c section rs ss a b d x y = record {
   settings = settings_stay a b d x.settings y.settings;
-  holds = λ it is. subst (Holds c d) (joined section rs ss it) (y.holds (with_records section rs it) (x.holds it is));
+  holds = λ it is. subst (Holds c d) (joined section rs ss it) (y.holds (records_added section it rs) (x.holds it is));
 }
 
 -- what a record says before its data
@@ -112,7 +113,7 @@ fills c section rs a b x = record { settings = x.settings; holds = λ it bare is
 pub fills_none : (c : Bool) (section : Section) (rs : List PushedRecord) (a b d : State) → Gains c section rs a b → Rewinds c section b d → Fills c section [] a d
 fills_none c section rs a b d x y = record {
   settings = settings_stay a b d x.settings y.settings;
-  holds = λ it bare is. subst (Holds c d) (again section rs it ∙ (bare ∙ sym (none_added section it))) (y.holds (with_records section rs it) (x.holds it is));
+  holds = λ it bare is. subst (Holds c d) (again section rs it ∙ (bare ∙ sym (none_added section it))) (y.holds (records_added section it rs) (x.holds it is));
 }
 
 -- a section that none is pushed to
@@ -123,7 +124,7 @@ fills_nothing c section a = fills c section [] a a (gains_none c section a)
 pub fills_more : (c : Bool) (section : Section) (rs ss : List PushedRecord) (a b d : State) → Fills c section rs a b → Gains c section ss b d → Fills c section (rs ++ ss) a d
 fills_more c section rs ss a b d x y = record {
   settings = settings_stay a b d x.settings y.settings;
-  holds = λ it bare is. subst (Holds c d) (joined section rs ss it) (y.holds (with_records section rs it) (x.holds it bare is));
+  holds = λ it bare is. subst (Holds c d) (joined section rs ss it) (y.holds (records_added section it rs) (x.holds it bare is));
 }
 
 -- The same state.
