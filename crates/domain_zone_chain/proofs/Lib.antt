@@ -1,0 +1,6 @@
+mod Among
+pub mod Calling
+mod Evaluating
+mod Joining
+mod Leading
+mod OneChain
