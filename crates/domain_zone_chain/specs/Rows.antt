@@ -81,6 +81,7 @@ alias_zone = record {
   rrsets = hourly example SOA (0 ∷ []) ∷ hourly example NS (wire (at (codes "www"))) ∷ www_a ∷ one ∷ two ∷ gone ∷ self ∷ a_b ∷ b_a ∷ x_y ∷ y_z ∷ z_x ∷ out ∷ cut ∷ sub ∷ wild ∷ old ∷ [];
 }
 
+-- The chains that questions to a zone with aliases start.
 pub record AliasRows : Type 0 where
   -- Two CNAMEs, and the records at the end, or none (RFC 1034, 4.3.2, step 3a; RFC 2308, 2.2).
   pub two_a : IsChain alias_zone (at (codes "two")) A (step (at (codes "two")) (found (alias two)) ∷ step (at (codes "One")) (found (alias one)) ∷ step (at (codes "www")) (found (records www_a)) ∷ [])

@@ -14,6 +14,7 @@ abbrev pub answer_view : AnswerRrset → RRset
 answer_view (Zones s) = section_view s
 answer_view (Made s) = cname_view s
 
+-- RRsets as the section has them.
 abbrev pub answer_views : List AnswerRrset → List RRset
 answer_views xs = map answer_view xs
 
