@@ -4,3 +4,4 @@ mod Evaluating
 mod Joining
 mod Leading
 mod OneChain
+mod Repeating
