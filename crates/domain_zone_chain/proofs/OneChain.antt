@@ -55,7 +55,7 @@ dec_among (m ∷ ms) n = elim (dec_same m n) [
   ]
 ]
 
-none_some : (m : List (List ℕ)) → None ≡ Some m → ⊥
+pub none_some : (m : List (List ℕ)) → None ≡ Some m → ⊥
 none_some m e = cc
 
 -- A name is there of which P holds, or none.
@@ -85,7 +85,7 @@ dec_leads z t most asked o = elim (dec_followed t) [
   ]
 ]
 
-longer : (k most : ℕ) (asked : List (List (List ℕ))) (m : List (List ℕ)) → most < suc k + length asked → most < k + length (asked ++ m ∷ [])
+pub longer : (k most : ℕ) (asked : List (List (List ℕ))) (m : List (List ℕ)) → most < suc k + length asked → most < k + length (asked ++ m ∷ [])
 longer k most asked m lt = let e : length (asked ++ m ∷ []) ≡ length asked + 1 = length-append asked (m ∷ []) in omega (arith, lt, e)
 
 unfoldable pub some_chain : (z : Zone) (t most : ℕ) → ((n : List (List ℕ)) → (o : Outcome) × Answers z n t o) → (k : ℕ) (asked : List (List (List ℕ))) (n : List (List ℕ)) → most < k + length asked → (xs : List Step) × Chain z t most asked n xs

@@ -11,10 +11,14 @@ abbrev pub last_outcome : Outcome → List Step → Outcome
 last_outcome o [] = o
 last_outcome o (x ∷ xs) = last_outcome x.outcome xs
 
+-- The RRsets have the same owner and the same type.
+abbrev pub same_set : RRset → RRset → Bool
+same_set r s = (r.rtype == s.rtype) && same_name r.owner s.owner
+
 -- The RRset s has the owner and the type of none of these.
 abbrev pub is_new_to : List RRset → RRset → Bool
 is_new_to [] s = true
-is_new_to (r ∷ rs) s = not ((r.rtype == s.rtype) && same_name r.owner s.owner) && is_new_to rs s
+is_new_to (r ∷ rs) s = not (same_set r s) && is_new_to rs s
 
 -- These RRsets, and s after them unless one of them has its owner and its type.
 abbrev pub with_rrset : List RRset → RRset → List RRset

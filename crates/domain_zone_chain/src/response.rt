@@ -4,7 +4,8 @@ ghost use Rattle.domain_name.specs.Names.{name_labels};
 ghost use Rattle.domain_zone.specs.Kept.{zone_view};
 ghost use Rattle.domain_zone_answer.specs.Sections.{AreSections};
 ghost use Rattle.domain_zone_answer.specs.Views.{response_name, response_outcome, response_sections};
-ghost use Rattle.domain_zone_chain.specs.ChainSections.{IsFollowedBy, Follows, is_new_to, with_rrset};
+ghost use Rattle.domain_zone_chain.specs.ChainSections.{IsFollowedBy, Follows};
+ghost use Rattle.domain_zone_chain.specs.ChainSections.{same_set, is_new_to, with_rrset};
 ghost use Rattle.domain_zone_chain.specs.Views.{answer_view, answer_views, last_of, chain_sections};
 
 use crate::answer::AnswerRrset;
@@ -66,16 +67,21 @@ impl<'a> ChainResponse<'a> {
     }
 }
 
+/// Whether two RRsets have the same owner and the same type.
+fn is_same(a: &AnswerRrset<'_>, b: &AnswerRrset<'_>) -> bool
+    ensures { result ≡ same_set (answer_view a.now) (answer_view b.now) }
+{
+    a.rtype() == b.rtype() && same_names(&a.owner(), &b.owner())
+}
+
 /// Whether none of these has the owner and the type of an RRset.
 fn is_new(answers: &[AnswerRrset<'_>], set: &AnswerRrset<'_>) -> bool
     ensures { result ≡ is_new_to (answer_views answers.now) (answer_view set.now) }
 {
-    let mut rest = answers;
-    while let Some((first, others)) = rest.split_first() {
-        if first.rtype() == set.rtype() && same_names(&first.owner(), &set.owner()) {
+    for answer in answers {
+        if is_same(answer, set) {
             return false;
         }
-        rest = others;
     }
     true
 }
@@ -85,9 +91,10 @@ fn push_new<'a>(answers: &mut Vec<AnswerRrset<'a>>, set: AnswerRrset<'a>) -> Res
     ensures { OnOk result (answer_views answers.new.items
         ≡ with_rrset (answer_views answers.old.items) (answer_view set.entry)) }
 {
-    if is_new(answers.as_slice(), &set) {
-        answers.push(set)?;
+    if !is_new(answers.as_slice(), &set) {
+        return Ok(());
     }
+    answers.push(set)?;
     Ok(())
 }
 
