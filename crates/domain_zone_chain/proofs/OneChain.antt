@@ -1,5 +1,5 @@
 -- A question starts one chain.
-use Rattle.std.proofs.Common.{◌≡◌, ℕ, suc, ◌+◌, ◌<◌, ◌≤◌, List, [], ◌∷◌, ◌++◌, length, refl, sym, ap, subst, ◌∙◌, length-append, arith, inl, inr, ⊎_elim}
+use Rattle.std.proofs.Common.{◌≡◌, ℕ, zero, suc, ◌+◌, ◌<◌, ◌≤◌, List, [], ◌∷◌, ◌++◌, length, refl, sym, ap, subst, ◌∙◌, length-append, arith, inl, inr, ⊎_elim}
 use Rattle.std.proofs.lemmas.Bool.Decides.{leb_tells}
 use Rattle.std.specs.Prelude.{◌⊎◌, Option, Some, None}
 use Rattle.domain_label.specs.Spelling.{JustOne}
@@ -63,7 +63,7 @@ unfoldable pub dec_option : (P : List (List ℕ) → Type 0) → ((n : List (Lis
 dec_option P d None = inr (λ m e p. none_some m e)
 dec_option P d (Some n) = elim (d n) [
   | inl p ↦ inl (n, refl, p)
-  | inr no ↦ inr (λ m e p. no (subst P (sym (ap name_or e)) p))
+  | inr never ↦ inr (λ m e p. never (subst P (sym (ap name_or e)) p))
 ]
 
 unfoldable pub dec_at_most : (m n : ℕ) → Decided (m ≤ n)
@@ -78,10 +78,10 @@ dec_followed t = dec_and (dec_not (dec_number t CNAME)) (dec_not (dec_number t A
 
 unfoldable pub dec_leads : (z : Zone) (t most : ℕ) (asked : List (List (List ℕ))) (o : Outcome) → ((m : List (List ℕ)) × LeadsTo z t most asked o m) ⊎ ((m : List (List ℕ)) → LeadsTo z t most asked o m → ⊥)
 dec_leads z t most asked o = elim (dec_followed t) [
-  | inr no ↦ inr (λ m h. no h.0)
+  | inr never ↦ inr (λ m h. never h.0)
   | inl f ↦ elim (dec_option (IsNext z most asked) (λ m. dec_and (dec_ends m z.apex) (dec_and (dec_not (dec_among asked m)) (dec_at_most (length asked) most))) (alias_target o)) [
     | inl h ↦ inl (h.0, (f, h.1, h.2.0, h.2.1.0, h.2.1.1))
-    | inr no ↦ inr (λ m h. no m h.1 (h.2, (h.3, h.4)))
+    | inr never ↦ inr (λ m h. never m h.1 (h.2, (h.3, h.4)))
   ]
 ]
 
@@ -94,7 +94,7 @@ some_chain z t most answer (suc k) asked n lt =
     let a = answer n in
     elim (dec_leads z t most asked a.0) [
       | inl h ↦ let r = some_chain z t most answer k (asked ++ h.0 ∷ []) h.0 (longer k most asked h.0 lt) in (step n a.0 ∷ r.0, goes_on asked n h.0 a.0 r.0 a.1 h.1 r.1)
-      | inr no ↦ (step n a.0 ∷ [], ends asked n a.0 a.1 no)
+      | inr never ↦ (step n a.0 ∷ [], ends asked n a.0 a.1 never)
     ]
 
 pub has_one_chain : HasOneOutcome → HasOneChain
