@@ -1,7 +1,7 @@
 -- A chain, by tests: what a question to a closed zone starts is computed.
 use Rattle.std.specs.Prelude.{codes}
-use Rattle.std.proofs.Common.{ℕ, ◌<◌, ◌≤◌, List, ◌∷◌, length, refl, arith, inl, inr, ⊎_elim}
-use Rattle.std.proofs.lemmas.Bool.Decides.{leb_tells}
+use Rattle.std.proofs.Common.{ℕ, ◌<◌, ◌≤◌, List, [], ◌∷◌, length, refl, arith, inl, inr}
+use Rattle.std.proofs.lemmas.Bool.{cases_lt}
 use Rattle.domain_label.specs.Wire.{wire}
 use Rattle.domain_zone_chain.proofs.OneChain.{dec_among, dec_option, dec_at_most, dec_followed, dec_leads, some_chain}
 use Rattle.domain_zone_chain.specs.Rows.{AliasRows, example, at, hourly, alias_zone}
@@ -12,11 +12,17 @@ use Rattle.domain_zone_laws.proofs.Ending.{ends_itself}
 use Rattle.domain_zone_laws.proofs.Nodes.{longest, shortest, shortest_root, shortest_step, shortest_first, dec_has, dec_owns, dec_exists, dec_not, dec_cut, first_cut, encloser}
 use Rattle.domain_zone_laws.proofs.Total.{some_reply, dec_referred}
 
+longer_than : (m n : ℕ) → (m ≤ n → ⊥) → n < m
+longer_than m n f = elim (cases_lt n m) [
+  | inl lt ↦ lt
+  | inr le ↦ absurd (f le)
+]
+
 redirected : (z : Zone) (q : List (List ℕ)) (t : ℕ) (e : List (List ℕ)) → IsNonexistent z q t e → (s : RRset) → IsAt z e DNAME s → (o : Outcome) × Answers z q t o
-redirected z q t e m s k = ⊎_elim
-    (λ (f : length (wire (substitution q s)) ≤ 255). (redirect s (substitution q s), (e, m, k, refl, f)))
-    (λ (f : 255 < length (wire (substitution q s))). (too_long s, (e, m, k, f)))
-    (⊎_elim (λ h. inl h.1) (λ h. inr h.1) (leb_tells (length (wire (substitution q s))) 255))
+redirected z q t e m s k = elim (dec_at_most (length (wire (substitution q s))) 255) [
+  | inl f ↦ (redirect s (substitution q s), (e, m, k, refl, f))
+  | inr f ↦ (too_long s, (e, m, k, longer_than (length (wire (substitution q s))) 255 f))
+]
 
 missing : (z : Zone) (q : List (List ℕ)) (t : ℕ) (e : List (List ℕ)) → IsNonexistent z q t e → (o : Outcome) × Answers z q t o
 missing z q t e m = elim (dec_has z e DNAME) [

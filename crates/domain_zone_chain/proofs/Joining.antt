@@ -5,7 +5,7 @@ use Rattle.std.specs.Prelude.{⊤, fold}
 use Rattle.domain_zone_answer.specs.Laws.{HasOneResponse}
 use Rattle.domain_zone_answer.specs.Sections.{Sections, AreSections}
 use Rattle.domain_zone_chain.proofs.OneChain.{HasNoTwo, no_two, one_chain}
-use Rattle.domain_zone_chain.specs.Chains.{Step, step, step_name, LeadsTo, Chain, alias_limit, IsChain}
+use Rattle.domain_zone_chain.specs.Chains.{Step, step, step_name, Chain, alias_limit, IsChain}
 use Rattle.domain_zone_chain.specs.Chains.Chain.{ends, goes_on}
 use Rattle.domain_zone_chain.specs.ChainSections.{last_outcome, with_rrset, followed_by, no_sections, AreChainSections, IsFollowedBy, Follows}
 use Rattle.domain_zone_chain.specs.Laws.{HasOneChainResponse}

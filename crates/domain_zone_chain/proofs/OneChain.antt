@@ -1,13 +1,12 @@
 -- A question starts one chain.
-use Rattle.std.proofs.Common.{◌≡◌, ℕ, zero, suc, ◌+◌, ◌<◌, ◌≤◌, List, [], ◌∷◌, ◌++◌, length, refl, sym, ap, subst, ◌∙◌, length-append, arith, inl, inr, ⊎_elim}
-use Rattle.std.proofs.lemmas.Bool.Decides.{leb_tells}
+use Rattle.std.proofs.Common.{◌≡◌, ℕ, zero, suc, ◌+◌, ◌<◌, ◌≤◌, List, [], ◌∷◌, ◌++◌, length, refl, sym, ap, subst, ◌∙◌, length-append, nat_le, arith, inl, inr, ⊎_elim}
+use Rattle.std.proofs.lemmas.Bool.{leb-true, le-leb}
 use Rattle.std.specs.Prelude.{◌⊎◌, Option, Some, None}
-use Rattle.domain_label.specs.Spelling.{JustOne}
 use Rattle.domain_list.specs.Ends.{EndsWith}
-use Rattle.domain_zone_chain.specs.Chains.{Step, step, alias_target, IsAmong, IsFollowed, LeadsTo, Chain, alias_limit, IsChain}
+use Rattle.domain_zone_chain.specs.Chains.{Step, step, alias_target, IsAmong, IsFollowed, LeadsTo, Chain, alias_limit}
 use Rattle.domain_zone_chain.specs.Chains.Chain.{ends, goes_on}
 use Rattle.domain_zone_chain.specs.Laws.{HasOneChain}
-use Rattle.domain_zone_laws.proofs.Deciding.{Decided, dec_number, dec_same, dec_ends, dec_and}
+use Rattle.domain_zone_laws.proofs.Deciding.{Decided, from_test, dec_number, dec_same, dec_ends, dec_and}
 use Rattle.domain_zone_laws.proofs.Nodes.{dec_not}
 use Rattle.domain_zone_laws.specs.Answers.{Outcome, Answers}
 use Rattle.domain_zone_laws.specs.Laws.{HasOneOutcome}
@@ -67,7 +66,7 @@ dec_option P d (Some n) = elim (d n) [
 ]
 
 unfoldable pub dec_at_most : (m n : ℕ) → Decided (m ≤ n)
-dec_at_most m n = ⊎_elim (λ h. inl h.1) (λ h. inr (λ le. omega (arith, le, h.1))) (leb_tells m n)
+dec_at_most m n = from_test (nat_le m n) (leb-true m n, le-leb m n)
 
 -- The parts of a lead that are about the target.
 abbrev IsNext : Zone → ℕ → List (List (List ℕ)) → List (List ℕ) → Type 0

@@ -1,7 +1,7 @@
 -- RRsets that are added where they are new.
 use Rattle.std.proofs.Common.{◌≡◌, ℕ, ◌+◌, ◌<◌, ◌≤◌, List, [], ◌∷◌, ◌++◌, drop, length, get_or, sym, ap, ◌∙◌}
 use Rattle.std.proofs.lemmas.List.{at_drop_more, at_drop_all}
-use Rattle.std.specs.Prelude.{Bool, true, false, not, ◌&&◌, if◌then◌else◌, fold}
+use Rattle.std.specs.Prelude.{Bool, true, false, not, ◌&&◌, if◌then◌else◌}
 use Rattle.domain_zone_chain.specs.ChainSections.{same_set, is_new_to, with_rrset}
 use Rattle.domain_zone_chain.specs.Views.{answer_view, answer_views}
 use Rattle.domain_zone_chain.specs.declared.answer.AnswerRrset.{AnswerRrset}
@@ -30,7 +30,3 @@ adds_new rs tested more s b all tells new is = is ∙ ap (λ t. if t then rs ++ 
 
 pub adds_none : (rs tested : List RRset) (s : RRset) (b : Bool) → tested ≡ rs → b ≡ is_new_to tested s → b ≡ false → rs ≡ with_rrset rs s
 adds_none rs tested s b all tells old = ap (λ t. if t then rs ++ s ∷ [] else rs) (sym old ∙ (tells ∙ ap (λ l. is_new_to l s) all))
-
--- An answer section has these RRsets.
-pub adds_all : (rs more xs ys zs all : List RRset) → xs ++ zs ≡ all → ys ≡ zs → more ≡ fold with_rrset rs (xs ++ ys) → more ≡ fold with_rrset rs all
-adds_all rs more xs ys zs all is made joined = joined ∙ ap (fold with_rrset rs) (ap (λ l. xs ++ l) made ∙ is)

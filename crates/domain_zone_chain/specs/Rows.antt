@@ -2,8 +2,8 @@
 use Rattle.std.specs.Prelude.{ℕ, List, [], ◌∷◌, codes}
 use Rattle.domain_label.specs.Wire.{wire, Root}
 use Rattle.domain_zone_chain.specs.Chains.{step, Chain, IsChain}
-use Rattle.domain_zone_laws.specs.Answers.{records, alias, no_data, out_of_zone, referral, found, redirect, too_long, synthesized, name_error}
-use Rattle.domain_zone_laws.specs.Zone.{Zone, RRset, NS, CNAME, SOA, DNAME, ANY}
+use Rattle.domain_zone_laws.specs.Answers.{records, alias, no_data, referral, found, redirect, synthesized, name_error}
+use Rattle.domain_zone_laws.specs.Zone.{Zone, RRset, NS, CNAME, SOA, DNAME}
 
 abbrev A : ℕ
 A = 1

@@ -1,6 +1,5 @@
 -- How contracts see the response that follows a chain.
-use Rattle.std.specs.Prelude.{ℕ, List, map}
-use Rattle.domain_name.specs.Names.{name_labels}
+use Rattle.std.specs.Prelude.{List, map}
 use Rattle.domain_zone_answer.specs.Sections.{Sections}
 use Rattle.domain_zone_answer.specs.Views.{section_view, cname_view, response_outcome, response_sections}
 use Rattle.domain_zone_chain.specs.declared.answer.AnswerRrset.{AnswerRrset}

@@ -1,4 +1,4 @@
-use Rattle.std.proofs.Common.{map, option_map, length, subst, ap, ◌∙◌, ◌++◌, arith, length-append, [], ◌∷◌}
+use Rattle.std.proofs.Common.{map, option_map, length, subst, ap, ◌∙◌, arith, length-append, [], ◌∷◌}
 use Rattle.std.proofs.lemmas.List.{map-append, length-map}
 use Rattle.domain_name.specs.Names.{name_labels}
 use Rattle.domain_zone_laws.specs.Zone.{IsZone}
