@@ -2,7 +2,7 @@
 use Rattle.std.proofs.Common.{◌≡◌, ℕ, ◌<◌, ◌≤◌, ◌+◌, suc, List, [], ◌∷◌, ◌++◌, map, take, drop, length, get_or, refl, sym, ap, subst, ◌∙◌, append_assoc, append-nil, drop-cons, take_all, arith}
 use Rattle.std.proofs.lemmas.List.{take-append-drop, map-append, map_more, length-map, length-take-le, take-map}
 use Rattle.std.proofs.Math.Seq.{take-append_seam}
-use Rattle.std.specs.Prelude.{Bool}
+use Rattle.std.specs.Prelude.{Bool, true, false, IsTrue, IsFalse}
 use Rattle.domain_message.specs.declared.section.Section.{Section}
 use Rattle.domain_message.specs.declared.section.Section.TheVariants.{Answer, Authority, Additional}
 use Rattle.domain_message_builder.specs.Contents.{RecordHead, PushedRecord, Content, Holds}
@@ -229,6 +229,11 @@ single_stops c section k s h d room a is same why = record {
   enough = omega arith;
   why = subst (λ x. CannotAdd c section (with_head x d) a room) same why;
 }
+
+-- One was pushed, or nothing was.
+pub gains_some : (c : Bool) (section : Section) (rs : List PushedRecord) (b : Bool) (old new : State) → (IsTrue b → Gains c section rs old new) → (IsFalse b → new ≡ old) → (ss : List PushedRecord) × Gains c section ss old new
+gains_some c section rs true old new some none = (rs, some refl)
+gains_some c section rs false old new some none = ([], subst (λ s. Gains c section [] old s) (sym (none refl)) (gains_none c section old))
 
 -- All RRsets of a section were pushed.
 pub fills_whole : (c : Bool) (section : Section) (k : ℕ) (xs : List RRset) (n : ℕ) (a b : State) → length xs ≤ n → Fills c section (all_records k (take n xs)) a b → Fills c section (all_records k xs) a b
