@@ -4,7 +4,7 @@
  *
  *     dnsnames_zone zone = DNSNAMES_ZONE_INIT;
  *     dnsnames_zone_place place;
- *     dnsnames_zone_status status = dnsnames_zone_load(&zone, text, text_len, NULL, 0, &place);
+ *     uint32_t status = dnsnames_zone_load(&zone, text, text_len, apex, apex_len, DNSNAMES_ZONE_IN, &place);
  *     ..
  *     status = dnsnames_zone_answer(&zone, DNSNAMES_ZONE_UDP, 1232, query, query_len, buffer, sizeof buffer, &len);
  *     ..
@@ -36,13 +36,17 @@ typedef struct dnsnames_zone {
 
 #define DNSNAMES_ZONE_INIT {0, 0}
 
-/* Where the text of a zone is refused: line and column, counted from 1, or 0 where the refusal has none; and the index
- * of an RRset in canonical order, where an RRset is refused. */
+/* Where the text of a zone is refused: line and column of the first entry that is refused, or of its fault, counted from
+ * 1. Where all entries are taken and they are no zone, both are 0, and the index is that of an RRset with a fault, in
+ * canonical order (RFC 4034, 6.1), or 0. */
 typedef struct dnsnames_zone_place {
     size_t line;
     size_t column;
     size_t index;
 } dnsnames_zone_place;
+
+/* The class Internet. */
+enum { DNSNAMES_ZONE_IN = 1 };
 
 /* What carries a response. */
 enum { DNSNAMES_ZONE_UDP = 0, DNSNAMES_ZONE_TCP = 1 };
@@ -51,7 +55,7 @@ typedef enum dnsnames_zone_status {
     DNSNAMES_ZONE_OK = 0,
     /* The buffer is too small. It is unchanged, and *length is how many octets are needed. */
     DNSNAMES_ZONE_NO_ROOM = 8,
-    /* The origin is no absolute name in wire format. */
+    /* The apex is no absolute name in wire format. */
     DNSNAMES_ZONE_NO_NAME = 9,
     /* A pointer is null: that of a result, or one whose length or capacity is not 0. */
     DNSNAMES_ZONE_NULL = 18,
@@ -64,13 +68,14 @@ typedef enum dnsnames_zone_status {
     /* Any other number says why a text is that of no zone: dnsnames_zone_strerror has it as a text. */
 } dnsnames_zone_status;
 
-/* Reads the text of a zone (RFC 1035, 5). Relative names go on with the origin, a name in wire format, or else with the
- * root, until $ORIGIN says otherwise. The apex is the owner of the first SOA. $INCLUDE is refused. A zone that was held
- * is freed where the new one is loaded, and kept where its text is refused.
+/* Reads the text of a zone (RFC 1035, 5) at this apex, a name in wire format, and of this class. Until $ORIGIN says
+ * otherwise, relative names go on with the apex; until a record says otherwise, its class is that of the zone. $INCLUDE
+ * is refused. Names in data have their final dot.
  *
- * Another number than DNSNAMES_ZONE_OK says why the text is refused, and *place where. */
-uint32_t dnsnames_zone_load(dnsnames_zone *zone, const uint8_t *text, size_t text_len, const uint8_t *origin,
-                            size_t origin_len, dnsnames_zone_place *place);
+ * Another number than DNSNAMES_ZONE_OK says why the text is that of no zone, and *place where. A zone that was held is
+ * freed where the new one is loaded, and else kept. */
+uint32_t dnsnames_zone_load(dnsnames_zone *zone, const uint8_t *text, size_t text_len, const uint8_t *apex,
+                            size_t apex_len, uint16_t class_, dnsnames_zone_place *place);
 
 /* Gives the message that answers a query: over UDP, or over TCP, from a server that takes `payload_size` octets in a
  * datagram. *length becomes its size, at most 65,535 octets.

@@ -8,8 +8,8 @@
  * nothing is written. */
 static const uint8_t nothing[1] = {0};
 
-uint32_t proved_dnsnames_zone_load(dnsnames_zone *zone, const uint8_t *text, size_t text_len, const uint8_t *origin,
-                                   size_t origin_len, size_t *line, size_t *column, size_t *index);
+uint32_t proved_dnsnames_zone_load(dnsnames_zone *zone, const uint8_t *text, size_t text_len, const uint8_t *apex,
+                                   size_t apex_len, uint16_t class_, size_t *line, size_t *column, size_t *index);
 uint32_t proved_dnsnames_zone_answer(dnsnames_zone *zone, uint32_t transport, uint16_t payload_size,
                                      const uint8_t *query, size_t query_len, uint8_t *buffer, size_t capacity,
                                      size_t *length);
@@ -26,12 +26,12 @@ static const uint8_t *octets_or_nothing(const uint8_t *octets)
     return octets == NULL ? nothing : octets;
 }
 
-uint32_t dnsnames_zone_load(dnsnames_zone *zone, const uint8_t *text, size_t text_len, const uint8_t *origin,
-                            size_t origin_len, dnsnames_zone_place *place)
+uint32_t dnsnames_zone_load(dnsnames_zone *zone, const uint8_t *text, size_t text_len, const uint8_t *apex,
+                            size_t apex_len, uint16_t class_, dnsnames_zone_place *place)
 {
-    if (zone == NULL || place == NULL || is_lacking(text, text_len) || is_lacking(origin, origin_len))
+    if (zone == NULL || place == NULL || is_lacking(text, text_len) || is_lacking(apex, apex_len))
         return DNSNAMES_ZONE_NULL;
-    return proved_dnsnames_zone_load(zone, octets_or_nothing(text), text_len, octets_or_nothing(origin), origin_len,
+    return proved_dnsnames_zone_load(zone, octets_or_nothing(text), text_len, octets_or_nothing(apex), apex_len, class_,
                                      &place->line, &place->column, &place->index);
 }
 
@@ -67,8 +67,6 @@ const char *dnsnames_zone_strerror(uint32_t status)
         return "no message is sent";
     case 42:
         return "out of memory";
-    case 43:
-        return "no SOA";
     case 44:
         return "$INCLUDE isn't taken";
     case 45:

@@ -1,8 +1,8 @@
 """Zones (RFC 1034, 4.2.1): read from a text, and asked with queries.
 
     >>> from dnsnames.zone import Zone
-    >>> zone = Zone.from_text(TEXT, "example")
-    >>> response = zone.answer(query)
+    zone = Zone.from_text(text, "example")
+    response = zone.answer(query)
 
 The library of zones is one of its own, since it allocates: what the variable DNSNAMES_ZONE_LIBRARY names, else
 `libdnsnames_zone.so.0` beside this package or where the system finds it.
@@ -18,6 +18,7 @@ from threading import Lock
 from typing import Any, Optional, Union
 
 from ._library import Octets, as_octets
+from ._mnemonic import AnyClass, Class, as_number
 from ._name import Name, as_name
 
 _OK, _NO_ROOM, _NO_RESPONSE, _NO_MEMORY = 0, 8, 41, 42
@@ -28,8 +29,9 @@ _size = ctypes.c_size_t
 class ZoneError(ValueError):
     """Why a text is that of no zone.
 
-    `status` is the number that the library answered. `line` and `column` are counted from 1, and None where the refusal
-    has none; `index` is that of an RRset in canonical order, or None. `reason` says what is wrong there.
+    `status` is the number that the library returned, and `reason` says what is wrong. `line` and `column`, counted from
+    1, are those of the first entry that is refused, or of its fault. They are None where all entries are taken and they
+    are no zone; `index` is then that of an RRset with a fault in canonical order (RFC 4034, 6.1), or None.
     """
 
     def __init__(
@@ -68,7 +70,9 @@ def _load() -> ctypes.CDLL:
     try:
         library = ctypes.CDLL(_path())
         zone, octets = ctypes.POINTER(_ZoneFields), ctypes.c_char_p
-        library.dnsnames_zone_load.argtypes = [zone, octets, _size, octets, _size, ctypes.POINTER(_PlaceFields)]
+        library.dnsnames_zone_load.argtypes = [
+            zone, octets, _size, octets, _size, ctypes.c_uint16, ctypes.POINTER(_PlaceFields),
+        ]
         library.dnsnames_zone_answer.argtypes = [
             zone, ctypes.c_uint32, ctypes.c_uint16, octets, _size, octets, _size, ctypes.POINTER(_size),
         ]
@@ -103,16 +107,19 @@ class Zone:
         raise TypeError("a Zone is made by Zone.from_text")
 
     @classmethod
-    def from_text(cls, text: Union[str, Octets], origin: Optional[Union[Name, str]] = None) -> Zone:
-        """The zone of a text (RFC 1035, 5). Relative names go on with the origin, or with the root, until `$ORIGIN`
-        says otherwise. Raises ZoneError of a text that is that of no zone, and MemoryError.
+    def from_text(cls, text: Union[str, Octets], apex: Union[Name, str], class_: AnyClass = 1) -> Zone:
+        """The zone of a text (RFC 1035, 5), at this apex and of this class. Until `$ORIGIN` says otherwise, relative
+        names go on with the apex; until a record says otherwise, its class is that of the zone. Names in data have
+        their final dot.
+
+        Raises ZoneError of a text that is that of no zone, and MemoryError.
         """
-        octets = text.encode("utf-8") if isinstance(text, str) else as_octets(text)
-        name = b"" if origin is None else bytes(as_name(origin))
+        octets = text.encode("utf-8", "surrogatepass") if isinstance(text, str) else as_octets(text)
+        name, number = bytes(as_name(apex)), as_number(Class, class_)
         made, place = object.__new__(cls), _PlaceFields()
         made._fields, made._lock = _ZoneFields(), Lock()
         status = _library.dnsnames_zone_load(
-            ctypes.byref(made._fields), octets, len(octets), name, len(name), ctypes.byref(place)
+            ctypes.byref(made._fields), octets, len(octets), name, len(name), number, ctypes.byref(place)
         )
         if status != _OK:
             _refuse(status, place)

@@ -1,6 +1,6 @@
-"""Serves a zone over UDP and TCP on 127.0.0.1: serve.py FILE PORT COUNT.
+"""Serves a zone over UDP and TCP on 127.0.0.1: serve.py APEX FILE PORT COUNT.
 
-FILE is the text of the zone. With PORT 0 the system chooses one. The first line printed is the port. The server ends
+APEX is the name of the zone, and FILE has its text. With PORT 0 the system chooses one. The first line printed is the port. The server ends
 after COUNT queries, or at SIGINT or SIGTERM. Each TCP connection carries any number of queries (RFC 7766), one connection
 after another.
 """
@@ -75,9 +75,9 @@ def serve(zone, udp, tcp, left):
             left -= answer_stream(zone, tcp, left)
 
 
-def main(path, port, count):
+def main(apex, path, port, count):
     try:
-        zone = Zone.from_text(pathlib.Path(path).read_bytes())
+        zone = Zone.from_text(pathlib.Path(path).read_bytes(), apex)
     except ZoneError as error:
         sys.exit(f"{path}: {error}")
     signal.signal(signal.SIGINT, end)

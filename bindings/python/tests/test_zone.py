@@ -1,12 +1,16 @@
 """Zones: what they answer, and why a text is that of none."""
 
+import copy
 import importlib.util
 import os
 import pathlib
+import pickle
 import struct
 import sys
 import threading
 import unittest
+
+from dnsnames import Type
 
 FOLDER = pathlib.Path(__file__).parents[1]
 TEXT = """$TTL 3600
@@ -14,6 +18,19 @@ TEXT = """$TTL 3600
 @ NS ns.example.
 ns A 192.0.2.1
 www A 192.0.2.2
+"""
+WILDCARDS = """$TTL 3600
+@ SOA ns.example.com. admin.example. 1 7200 900 1209600 86400
+@ NS ns.example.com.
+@ NS ns.example.net.
+* TXT "this is a wildcard"
+* MX 10 host1.example.
+sub.* TXT "this is not a wildcard"
+host1 A 192.0.2.1
+_ssh._tcp.host1 SRV 0 0 22 host1.example.
+_ssh._tcp.host2 SRV 0 0 22 host2.example.
+subdel NS ns.example.com.
+subdel NS ns.example.net.
 """
 
 
@@ -58,23 +75,56 @@ class Zones(unittest.TestCase):
             with self.assertRaises(ValueError):
                 zone.answer(asked, limit)
 
+    def test_wildcards(self):
+        """The zone of RFC 4592, 2.2.1, and what it says of each question."""
+        from dnsnames import Message
+
+        zone = self.Zone.from_text(WILDCARDS, "example", "IN")
+        for name, rtype, code, answers in (
+            ("host3.example", "MX", 0, ["host3.example. 3600 IN MX 10 host1.example."]),
+            ("host3.example", "A", 0, []),
+            ("foo.bar.example", "TXT", 0, ['foo.bar.example. 3600 IN TXT "this is a wildcard"']),
+            ("host1.example", "MX", 0, []),
+            ("sub.*.example", "MX", 0, []),
+            ("_telnet._tcp.host1.example", "SRV", 3, []),
+            ("ghost.*.example", "MX", 3, []),
+        ):
+            with self.subTest(name=name, rtype=rtype):
+                response = Message(zone.answer(query(name, Type[rtype])))
+                self.assertEqual((response.header.rcode, response.header.is_authoritative), (code, True))
+                self.assertEqual([it.to_text().split() for it in response.answers()], [it.split() for it in answers])
+                if not answers:
+                    self.assertEqual([(str(it.owner), it.type) for it in response.authority()], [("example.", Type.SOA)])
+        response = Message(zone.answer(query("host.subdel.example", 1)))
+        self.assertEqual((response.header.rcode, response.header.is_authoritative, list(response.answers())), (0, False, []))
+        self.assertEqual(
+            [it.to_text().split() for it in response.authority()],
+            [f"subdel.example. 3600 IN NS ns.example.{it}.".split() for it in ("com", "net")],
+        )
+
     def test_refusals(self):
-        for text, line, column, reason in (
-            ("$TTL 1h\n@ SOA a. b. 1 2 3 4 x\n", 2, 25, "not a number of this field"),
-            ("$TTL 1h\na A 192.0.2.1\n", None, None, "no SOA"),
-            ("$INCLUDE other\n", 1, None, "$INCLUDE isn't taken"),
-            (TEXT + "a.org. A 192.0.2.1\n", 6, None, "owner not at or below the apex"),
-            (TEXT.replace("@ NS ns.example.\n", ""), None, None, "no name servers at the apex"),
-            (TEXT + "www CNAME a.example.\n", None, None, "type that cannot be beside a CNAME"),
+        for text, line, column, index, reason in (
+            ("$TTL 1h\n@ SOA a. b. 1 2 3 4 x\n", 2, 25, None, "not a number of this field"),
+            ("$TTL 1h\n\n$INCLUDE other\n", 3, 1, None, "$INCLUDE isn't taken"),
+            (TEXT + "a.org. A 192.0.2.1\n", 6, 1, None, "owner not at or below the apex"),
+            (TEXT + "@ CH A 192.0.2.1\n", 6, 1, None, "class other than that of the zone"),
+            ("$TTL 1h\na A 192.0.2.1\n", None, None, None, "no SOA at the apex"),
+            (TEXT.replace("@ NS ns.example.\n", ""), None, None, None, "no name servers at the apex"),
+            (TEXT + "www CNAME a.example.\n", None, None, 3, "type that cannot be beside a CNAME"),
         ):
             with self.subTest(text=text), self.assertRaises(self.ZoneError) as raised:
                 self.Zone.from_text(text, "example")
             error = raised.exception
-            self.assertEqual((error.line, error.column, error.reason), (line, column, reason))
-        with self.assertRaises(TypeError):
-            self.Zone()
-        with self.assertRaises(TypeError):
-            self.Zone.from_text(TEXT, 7)
+            self.assertEqual((error.line, error.column, error.index, error.reason), (line, column, index, reason))
+            self.assertEqual(str(pickle.loads(pickle.dumps(error))), str(error))
+        for wrong in (lambda: self.Zone(), lambda: self.Zone.from_text(TEXT), lambda: self.Zone.from_text(TEXT, 7),
+                      lambda: self.Zone.from_text(7, "example"), lambda: copy.copy(self.zone)):
+            with self.assertRaises(TypeError):
+                wrong()
+
+    def test_class(self):
+        zone = self.Zone.from_text(TEXT, "example", "CH")
+        self.assertEqual(zone.answer(query("www.example", 1))[3] & 15, 5)
 
     def test_threads(self):
         wanted = self.zone.answer(query("www.example", 1))

@@ -1,4 +1,4 @@
-"""Asks a server of the example zone over UDP and TCP, as dig does: serve.py COMMAND.. is started with FILE PORT COUNT."""
+"""Asks a server of the example zone over UDP and TCP, as dig does: serve.py COMMAND.. is started with APEX FILE PORT COUNT."""
 
 import pathlib
 import signal
@@ -8,13 +8,12 @@ import subprocess
 import sys
 import tempfile
 
-TEXT = """$ORIGIN example.
-$TTL 3600
-@ SOA ns admin 1 7200 900 1209600 86400
-@ NS ns
+TEXT = """$TTL 3600
+@ SOA ns.example. admin.example. 1 7200 900 1209600 86400
+@ NS ns.example.
 ns A 192.0.2.1
 www A 192.0.2.2
-""".replace(" ns admin", " ns.example. admin.example.").replace("NS ns", "NS ns.example.")
+"""
 
 
 def query(identifier, name, rtype):
@@ -59,7 +58,7 @@ def serve(command, count, ask):
     with tempfile.TemporaryDirectory() as folder:
         path = pathlib.Path(folder, "example.zone")
         path.write_text(TEXT)
-        with subprocess.Popen([*command, str(path), "0", str(count)], stdout=subprocess.PIPE, text=True) as server:
+        with subprocess.Popen([*command, "example", str(path), "0", str(count)], stdout=subprocess.PIPE, text=True) as server:
             try:
                 ask(server, int(server.stdout.readline()))
                 return server.wait(20)

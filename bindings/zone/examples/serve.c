@@ -1,6 +1,6 @@
-/* Serves a zone over UDP and TCP on 127.0.0.1: serve FILE PORT COUNT.
+/* Serves a zone over UDP and TCP on 127.0.0.1: serve APEX FILE PORT COUNT.
  *
- * FILE is the text of the zone. With PORT 0 the system chooses one. The first line printed is the port. The server ends
+ * APEX is the name of the zone, without escapes, and FILE has its text. With PORT 0 the system chooses one. The first line printed is the port. The server ends
  * after COUNT queries, or at SIGINT or SIGTERM. Each TCP connection carries any number of queries (RFC 7766), one
  * connection after another. */
 #include "dnsnames_zone.h"
@@ -19,6 +19,7 @@
 /* What fits into a packet on most paths. */
 #define PAYLOAD_SIZE 1232
 #define MAX_MESSAGE 65535
+#define MAX_NAME 255
 
 static volatile sig_atomic_t is_ended;
 
@@ -57,12 +58,30 @@ static uint8_t *read_file(const char *path, size_t *len)
     return octets;
 }
 
-static void load(dnsnames_zone *zone, const char *path)
+/* The wire format of a name without escapes, and its length: each label behind its length, and the root. */
+static size_t wire_of(const char *name, uint8_t wire[MAX_NAME])
 {
-    size_t len;
+    size_t len = 0;
+    while (*name != 0) {
+        size_t label = strcspn(name, ".");
+        if (label > 63 || len + label + 2 > MAX_NAME)
+            return 0;
+        wire[len] = (uint8_t)label;
+        memcpy(wire + len + 1, name, label);
+        len += label + 1;
+        name += label + (name[label] == '.');
+    }
+    wire[len] = 0;
+    return len + 1;
+}
+
+static void load(dnsnames_zone *zone, const char *name, const char *path)
+{
+    uint8_t apex[MAX_NAME];
+    size_t len, apex_len = wire_of(name, apex);
     dnsnames_zone_place place = {0, 0, 0};
     uint8_t *text = read_file(path, &len);
-    uint32_t status = dnsnames_zone_load(zone, text, len, NULL, 0, &place);
+    uint32_t status = dnsnames_zone_load(zone, text, len, apex, apex_len, DNSNAMES_ZONE_IN, &place);
     free(text);
     if (status == DNSNAMES_ZONE_OK)
         return;
@@ -162,17 +181,17 @@ int main(int argc, char **argv)
     struct pollfd sockets[2];
     uint16_t port;
     long left;
-    if (argc != 4) {
-        fprintf(stderr, "usage: serve FILE PORT COUNT\n");
+    if (argc != 5) {
+        fprintf(stderr, "usage: serve APEX FILE PORT COUNT\n");
         return 2;
     }
     memset(&action, 0, sizeof action);
     action.sa_handler = end;
     sigaction(SIGINT, &action, NULL);
     sigaction(SIGTERM, &action, NULL);
-    load(&zone, argv[1]);
-    port = (uint16_t)strtoul(argv[2], NULL, 10);
-    left = strtol(argv[3], NULL, 10);
+    load(&zone, argv[1], argv[2]);
+    port = (uint16_t)strtoul(argv[3], NULL, 10);
+    left = strtol(argv[4], NULL, 10);
     sockets[0].fd = open_at(SOCK_DGRAM, &port);
     sockets[1].fd = open_at(SOCK_STREAM, &port);
     sockets[0].events = sockets[1].events = POLLIN;

@@ -1,7 +1,7 @@
--- The numbers of why a text is that of no zone. The header dnsnames_zone.h names them.
+-- The numbers of why a text is that of no zone, which the header dnsnames_zone.h names, and where.
 use Rattle.std.specs.Prelude.{ℕ}
-use Rattle.dnsnames_zone_c.specs.declared.load.LoadError.{LoadError}
-use Rattle.dnsnames_zone_c.specs.declared.load.LoadError.TheVariants as load
+use Rattle.dnsnames_zone_c.specs.declared.number.ErrorPlace.{ErrorPlace}
+use Rattle.domain_rdata_text.specs.declared.place.Place.{Place}
 use Rattle.domain_rdata_text.specs.declared.error.Reason.{Reason}
 use Rattle.domain_rdata_text.specs.declared.error.Reason.TheVariants as reason
 use Rattle.domain_zone.specs.declared.building.InsertError.{InsertError}
@@ -10,6 +10,8 @@ use Rattle.domain_zone.specs.declared.fault.RrsetFault.{RrsetFault}
 use Rattle.domain_zone.specs.declared.fault.RrsetFault.TheVariants as rrset
 use Rattle.domain_zone.specs.declared.fault.ZoneFault.{ZoneFault}
 use Rattle.domain_zone.specs.declared.fault.ZoneFault.TheVariants as zone
+use Rattle.domain_zone_load.specs.declared.error.LoadError.{LoadError}
+use Rattle.domain_zone_load.specs.declared.error.LoadError.TheVariants as load
 use Rattle.domain_zone_text.specs.declared.error.EntryReason.{EntryReason}
 use Rattle.domain_zone_text.specs.declared.error.EntryReason.TheVariants as entry
 
@@ -88,6 +90,29 @@ abbrev pub load_number : LoadError → ℕ
 load_number (load.Entry place why) = entry_number why
 load_number (load.Include place) = 44
 load_number (load.Record place why) = insert_number why
-load_number load.NoSoa = 43
 load_number (load.Zone fault) = zone_number fault
 load_number load.Memory = 42
+
+-- a line and a column, and no RRset
+abbrev pub placed : Place → ErrorPlace
+placed place = record { line = place.line; column = place.column; index = 0 }
+
+-- no line, no column, and the RRset at this index
+abbrev pub at_index : ℕ → ErrorPlace
+at_index i = record { line = 0; column = 0; index = i }
+
+-- where the records have the fault: at the RRset of this index, or nowhere, which is 0
+abbrev pub zone_place : ZoneFault → ErrorPlace
+zone_place zone.Order = at_index 0
+zone_place zone.NoSoa = at_index 0
+zone_place zone.NoServers = at_index 0
+zone_place zone.DsAtApex = at_index 0
+zone_place (zone.Rrset i why) = at_index i
+
+-- where a text has the fault
+abbrev pub error_place : LoadError → ErrorPlace
+error_place (load.Entry place why) = placed place
+error_place (load.Include place) = placed place
+error_place (load.Record place why) = placed place
+error_place (load.Zone fault) = zone_place fault
+error_place load.Memory = at_index 0

@@ -4,7 +4,6 @@
 //! names the numbers that calls answer.
 #![tactic(auto)]
 
-mod load;
 mod number;
 mod put;
 mod zone;

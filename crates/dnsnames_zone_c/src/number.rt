@@ -1,10 +1,10 @@
 //! The numbers of why a text is that of no zone.
-ghost use Rattle.std.specs.Prelude.{◌≡◌};
-ghost use Rattle.dnsnames_zone_c.specs.Numbers.{data_number, entry_number, insert_number, load_number, rrset_number, zone_number};
+ghost use Rattle.std.specs.Prelude.{◌≡◌, ◌≤◌};
+ghost use Rattle.dnsnames_zone_c.specs.Numbers.{data_number, entry_number, error_place, insert_number, load_number, placed, rrset_number, zone_number};
 
-use crate::load::LoadError;
-use domain_rdata_text::Reason;
+use domain_rdata_text::{Place, Reason};
 use domain_zone::{InsertError, RrsetFault, ZoneFault};
+use domain_zone_load::LoadError;
 use domain_zone_text::EntryReason;
 
 /// Where an error is: line and column, counted from 1, or 0; and the index of an RRset, or 0.
@@ -17,7 +17,8 @@ pub(crate) struct ErrorPlace {
 
 /// The number of why data isn't read.
 fn number_of_data(reason: Reason) -> u32
-    ensures { result ≡ data_number reason }
+    ensures number { result ≡ data_number reason }
+    ensures above { 42 ≤ result }
 {
     match reason {
         Reason::OpenQuote => 80,
@@ -47,7 +48,8 @@ fn number_of_data(reason: Reason) -> u32
 
 /// The number of why an entry isn't read.
 fn number_of_entry(reason: EntryReason) -> u32
-    ensures { result ≡ entry_number reason }
+    ensures number { result ≡ entry_number reason }
+    ensures above { 42 ≤ result }
 {
     match reason {
         EntryReason::OpenQuote => 60,
@@ -69,7 +71,8 @@ fn number_of_entry(reason: EntryReason) -> u32
 
 /// The number of why a record can't be in the zone.
 fn number_of_insert(error: InsertError) -> u32
-    ensures { result ≡ insert_number error }
+    ensures number { result ≡ insert_number error }
+    ensures above { 42 ≤ result }
 {
     match error {
         InsertError::OtherClass => 45,
@@ -81,7 +84,8 @@ fn number_of_insert(error: InsertError) -> u32
 
 /// The number of why an RRset can't be in the zone.
 fn number_of_rrset(fault: RrsetFault) -> u32
-    ensures { result ≡ rrset_number fault }
+    ensures number { result ≡ rrset_number fault }
+    ensures above { 42 ≤ result }
 {
     match fault {
         RrsetFault::OutOfZone => 110,
@@ -99,7 +103,8 @@ fn number_of_rrset(fault: RrsetFault) -> u32
 
 /// The number of why RRsets are no zone.
 fn number_of_zone(fault: ZoneFault) -> u32
-    ensures { result ≡ zone_number fault }
+    ensures number { result ≡ zone_number fault }
+    ensures above { 42 ≤ result }
 {
     match fault {
         ZoneFault::Order => 50,
@@ -112,45 +117,50 @@ fn number_of_zone(fault: ZoneFault) -> u32
 
 /// The number of why no zone is made of a text.
 pub(crate) fn number_of(error: &LoadError) -> u32
-    ensures { result ≡ load_number error.now }
+    ensures number { result ≡ load_number error.now }
+    ensures above { 42 ≤ result }
 {
     match error {
         LoadError::Entry(_, reason) => number_of_entry(*reason),
         LoadError::Include(_) => 44,
         LoadError::Record(_, why) => number_of_insert(*why),
-        LoadError::NoSoa => 43,
         LoadError::Zone(fault) => number_of_zone(*fault),
         LoadError::Memory => 42,
     }
 }
 
+/// No line, no column and no RRset.
+const NOWHERE: ErrorPlace = ErrorPlace {
+    line: 0,
+    column: 0,
+    index: 0,
+};
+
+/// Returns a line and a column, and no RRset.
+fn at_place(place: Place) -> ErrorPlace
+    ensures { result ≡ placed place }
+{
+    ErrorPlace {
+        line: place.line,
+        column: place.column,
+        index: 0,
+    }
+}
+
 /// Returns where an error is.
-pub(crate) fn place_of_error(error: &LoadError) -> ErrorPlace {
+pub(crate) fn place_of_error(error: &LoadError) -> ErrorPlace
+    ensures { result ≡ error_place error.now }
+{
     match error {
-        LoadError::Entry(place, _) => ErrorPlace {
-            line: place.line,
-            column: place.column,
-            index: 0,
-        },
-        LoadError::Include(place) => ErrorPlace {
-            line: place.line,
-            column: 0,
-            index: 0,
-        },
-        LoadError::Record(place, _) => ErrorPlace {
-            line: place.line,
-            column: 0,
-            index: 0,
-        },
+        LoadError::Entry(place, _) => at_place(*place),
+        LoadError::Include(place) => at_place(*place),
+        LoadError::Record(place, _) => at_place(*place),
         LoadError::Zone(ZoneFault::Rrset(index, _)) => ErrorPlace {
             line: 0,
             column: 0,
             index: *index,
         },
-        _ => ErrorPlace {
-            line: 0,
-            column: 0,
-            index: 0,
-        },
+        LoadError::Zone(_) => NOWHERE,
+        LoadError::Memory => NOWHERE,
     }
 }
