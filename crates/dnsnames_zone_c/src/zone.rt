@@ -75,8 +75,8 @@ fn load_into(
 ///
 /// 9 exactly where the apex is no absolute name. Each other number than 0 says why the text is that of no zone
 /// (`load_number`), and `line`, `column` and `index` say where (`error_place`): line and column are those of the first
-/// entry that is refused, or of its fault, counted from 1, or else 0; the index is that of an RRset in canonical order.
-/// The slot is then unchanged. 42 where an allocation failed.
+/// entry that is refused, or of its fault, counted from 1, or else 0. The index is that of an RRset in canonical
+/// order. The slot is then unchanged. 42 where an allocation failed.
 #[unsafe(no_mangle)]
 pub extern "C" fn dnsnames_zone_load(
     alloc: Global,

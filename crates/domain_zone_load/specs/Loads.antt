@@ -30,8 +30,8 @@ use Rattle.domain_zone_load.specs.Takings.{first_setting, IsIncludeEntry, IsRefu
 abbrev pub place_of_rest : List ℕ → List ℕ → Place
 place_of_rest text rest = place_after 1 1 (take (length text - length rest) text)
 
--- A text starts with these entries, one after another, where s is what came before them; then there is this rest, and t
--- is what they leave.
+-- A text starts with these entries, one after another, where s is what came before them; then there is this rest, and
+-- t is what they leave.
 abbrev pub HasEntries : Setting → List ℕ → List EntrySaid → List ℕ → Setting → Type 0
 HasEntries s text [] rest t = (rest ≡ text) × (t ≡ s)
 HasEntries s text (e ∷ es) rest t =

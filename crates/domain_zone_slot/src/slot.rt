@@ -26,6 +26,11 @@ pub struct ZoneSlot {
     pub ghost held: { Option Held } by { coded_option the_row.coded },
 }
 
+/// Returns a null pointer.
+fn nowhere() -> *mut u8 {
+    null_mut()
+}
+
 impl Model for ZoneSlot {
     ghost also_owns = { λ s. slot_owns s.full s.at s.held };
 }
@@ -69,7 +74,7 @@ impl ZoneSlot {
         ensures taken { boxed_zone result ≡ self.old.held }
         ensures none { self.new.held ≡ None }
     {
-        let old = replace(self, ZoneSlot::empty(null_mut()));
+        let old = replace(self, ZoneSlot::empty(nowhere()));
         match old.into_loose(alloc) {
             None => None,
             Some(zone) => Some(zone.into_box()),
