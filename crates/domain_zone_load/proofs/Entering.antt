@@ -2,7 +2,6 @@
 use Rattle.std.proofs.Common.{◌≡◌, ℕ, ◌<◌, ◌≤◌, List, [], ◌∷◌, ◌++◌, length, Some, refl, sym, ap, subst, ◌∙◌, arith}
 use Rattle.std.proofs.lemmas.List.{append_assoc, append-nil}
 use Rattle.std.proofs.lemmas.List.Elements.{All-append, All-cons, All-nil}
-use Rattle.std.specs.List.{All}
 use Rattle.domain_header.specs.Values.{class_number}
 use Rattle.domain_header.specs.declared.class.Class.{Class}
 use Rattle.domain_zone.specs.Builders.{builder_apex, builder_class, inserted}

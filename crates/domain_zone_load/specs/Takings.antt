@@ -1,5 +1,5 @@
 -- The entries of a text, and what a zone takes of each.
-use Rattle.std.specs.Prelude.{◌≡◌, ◌≢◌, ℕ, List, [], ◌∷◌, ◌++◌, None}
+use Rattle.std.specs.Prelude.{◌≡◌, ◌≢◌, ℕ, List, [], ◌∷◌, None}
 use Rattle.domain_label.specs.Wire.{labels_in}
 use Rattle.domain_list.specs.Ends.{EndsWith}
 use Rattle.domain_zone.specs.Building.{Inserted}

@@ -9,7 +9,7 @@ use mir.Syntax.{ty_ptr}
 use mir.Val.{Val, vint, vstruct, vcons, vnil, of_list, has_ty, WT}
 use types.Logic.{Logic, sem}
 use types.Kit.{Item, Goal, Seq, Step, step, ‵, given, ◌$◌, drop, learn, use1, fsplit, fjoin, fpick, fpack, feq_i, feq_l}
-use denote.RattleType.{RattleType, Valss}
+use denote.RattleType.{Valss}
 use denote.Builtin.{RawPtr, usize}
 use denote.Laws.{Is, shows}
 use denote.Memory.{lone}

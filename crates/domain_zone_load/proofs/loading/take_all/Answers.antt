@@ -1,4 +1,4 @@
-use Rattle.std.proofs.Common.{ℕ, ◌<◌, length, arith, rules}
+use Rattle.std.proofs.Common.{◌<◌, length, arith, rules}
 use Rattle.domain_zone_text.specs.Meanings.{setting_of}
 use Rattle.domain_zone_text.specs.Reading.{entry_view}
 use Rattle.domain_zone_load.proofs.Entering.{stopped_unread, stopped_untaken, taking_more}

@@ -1,9 +1,8 @@
 -- `empty` makes a slot that owns nothing.
 use Rattle.std.proofs.Common.{[], ◌∷◌, refl, lit<}
 use base.Fml.{ftrue}
-use contract.Running.{tables}
 use types.Kit.{‵, raw, ◌$◌, ◌∵◌, !, qed, done, drop, join, suffices, feq_i}
-use types.Run.{enter, lit, of_opd, no_more, and_then, returns}
+use types.Run.{enter, lit, no_more, and_then, returns}
 use types.Part.{agg}
 use types.ByLocal.{alloc_all, pass_all, free_all, look_at, get, sets}
 use denote.Exit.{yes}

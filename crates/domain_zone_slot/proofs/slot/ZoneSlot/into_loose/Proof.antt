@@ -1,13 +1,12 @@
 -- `into_loose` has the pointer again, where the number says that there is one.
-use Rattle.std.proofs.Common.{◌≡◌, ℕ, zero, suc, ◌^◌, ◌<◌, List, [], ◌∷◌, ◌++◌, refl, sym, ap, ◌∙◌, subst, lit<, w64}
+use Rattle.std.proofs.Common.{◌≡◌, ℕ, suc, ◌^◌, ◌<◌, List, [], ◌∷◌, ◌++◌, refl, sym, ◌∙◌, subst, lit<}
 use mathlib.Core.Bool.{Bool}
 use lib.Dec.{T, eqb-suc-zero}
-use mir.Val.{Val, vcons, vnil, vint, vptr}
-use base.Logic.{SProp, ent, emp, sep, never, id⊢, fst∗}
+use mir.Val.{Val, vcons, vnil, vptr}
+use base.Logic.{SProp, ent, emp, id⊢}
 use base.Fml.{ftrue}
 use prog.Wp.{WpFn}
-use types.Logic.{sem}
-use types.Kit.{‵, raw, ◌⊛◌, at_ret, ◌$◌, ◌∵◌, !, qed, by, move, drop, split, fsplit, fsplit3, fjoin, fpick, feq_l, suffices, use0, use1, rewrite}
+use types.Kit.{‵, raw, ◌⊛◌, at_ret, ◌$◌, ◌∵◌, !, qed, by, move, drop, split, fsplit, fjoin, suffices, use0, use1}
 use types.Match.{live}
 use types.Run.{stop, fld, lit, of_opd, bin, no_more, and_then, first, branches, exec, returns, enter}
 use types.ByLocal.{alloc_all, pass_all, free_all, look_at, get, get_in, sets, sets_last, env}
@@ -15,16 +14,13 @@ use types.Part.{agg, sub, whole}
 use contract.Monad.{fact, fact_i}
 use contract.Running.{tables}
 use denote.Exit.{rest}
-use denote.Laws.{Typed}
-use denote.Memory.{lone}
 use denote.RattleType.{RattleType, owns}
-use denote.RawPtr.{Ptr, block_ptr, null_ptr, in_a_block}
+use denote.RawPtr.{block_ptr}
 use denote.Signature.{types_at, type_at, plain}
-use denote.Steps.{nothing, only}
+use denote.Steps.{nothing}
 use denote.Param.{layout}
 use denote.Triple.Entry.{alive}
 use denote.Triple.Walked.{Stays, stay_dropped, walk_of}
-use mir.Raw.{raw as bare}
 use Rattle.std.proofs.ResultValues.{and_tt}
 use Rattle.std.proofs.alloc.Calls.{Goes-blank, handle_tells}
 use Rattle.std.proofs.alloc.Global.TheLaws as heap_laws
@@ -35,12 +31,8 @@ use Rattle.std.proofs.raw_atomic.Walks.{proved_at, leaves}
 use Rattle.std.specs.Box.Ownership.{box_owns}
 use Rattle.std.specs.contracts.alloc.Global as heap
 use Rattle.std.specs.contracts.impls.GlobalAllocator.TheImpl.{ghosts}
-use Rattle.std.specs.declared.alloc.Global.{Global}
-use Rattle.std.specs.declared.option.Option.{Option}
 use Rattle.std.specs.declared.option.Option.TheVariants.{None, Some}
 use Rattle.domain_zone.specs.contracts.kept.Zone as zone
-use Rattle.domain_zone.specs.declared.kept.Zone.{Zone}
-use Rattle.domain_zone_slot.specs.Slots.{loose_zone, slot_owns}
 use Rattle.domain_zone_slot.specs.contracts.slot.ZoneSlot as slot
 use Rattle.domain_zone_slot.specs.contracts.slot.ZoneSlot.into_loose.{ended, clauses}
 use Rattle.domain_zone_slot.specs.contracts.slot.ZoneSlot.into_loose.Key.{name as #self}
