@@ -26,7 +26,8 @@ pub enum Reason {
     Ipv4,
     /// The word isn't an IPv6 address (RFC 4291, 2.2).
     Ipv6,
-    /// The word isn't an absolute name of at most 255 octets with its final dot (RFC 1035, 2.3.4).
+    /// The word isn't a name of at most 255 octets (RFC 1035, 2.3.4), with those of the origin if it is relative.
+    /// Without an origin no relative name is read.
     Name,
     /// The word isn't a character string of at most 255 octets.
     CharString,
