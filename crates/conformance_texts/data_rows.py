@@ -457,14 +457,14 @@ FIELDS = {
     15: "2n", 16: "S", 17: "nn", 18: "2n", 19: "s", 20: "so", 21: "2n", 24: "R114TT2nb", 25: "211b", 26: "2nn",
     27: "sss", 28: "A", 33: "222n", 35: "22sssn", 36: "2n", 37: "221b", 39: "n", 43: "211h", 44: "11h",
     46: "R114TT2nb", 47: "nB", 48: "211b", 49: "b", 50: "112HXO", 51: "112H", 52: "111h", 53: "111h", 58: "nn",
-    59: "211h", 60: "211b", 61: "b", 62: "42O", 63: "411h", 99: "S", 105: "2a", 107: "2n", 256: "22q", 257: "1tq",
+    59: "211h", 60: "211b", 61: "b", 62: "42O", 63: "411h", 64: "2nP", 65: "2nP", 99: "S", 105: "2a", 107: "2n", 256: "22q", 257: "1tq",
     258: "S", 32769: "211h",
 }
 # Types whose data is shown after \# alone. RFC 1035 (NULL, WKS), 1706 (NSAP, NSAP-PTR), 1876 (LOC). 2535
-# (NXT), 3123 (APL), 4025 (IPSECKEY), 8005 (HIP), 9460 (SVCB, HTTPS), 6742 (NID, L64), 7043 (EUI48, EUI64). 2930 (TKEY),
-# 8945 (TSIG), 8777 (AMTRELAY), and one for private use.
+# (NXT), 3123 (APL), 4025 (IPSECKEY), 8005 (HIP), 6742 (NID, L64), 7043 (EUI48, EUI64). 2930 (TKEY), 8945 (TSIG), 8777
+# (AMTRELAY), and one for private use.
 OF_OCTETS = {
-    10: "*", 11: "*", 22: "*", 29: "*", 30: "n*", 42: "*", 45: "*", 55: "*", 64: "2nP", 65: "2nP", 104: "28",
+    10: "*", 11: "*", 22: "*", 29: "*", 30: "n*", 42: "*", 45: "*", 55: "*", 104: "28",
     106: "28", 108: "6", 109: "8", 249: "n4422KK", 250: "n62K22K", 260: "*", 65280: "*",
 }
 # What a field of each kind is: a text and its octets, and texts that are none, after their fault.
@@ -497,7 +497,8 @@ KINDS = {
     "6": ((None, b"\x01\x02\x03\x04\x05\x06"), None, ()),
     "8": ((None, b"\x01\x02\x03\x04\x05\x06\x07\x08"), None, ()),
     "K": ((None, b"\0\x02ab"), None, ()),
-    "P": ((None, b"\0\x01\0\x03\x02h2\0\x03\0\x02\x01\xbb"), None, ()),
+    "P": ((b'alpn="h2" port="443"', b"\0\x01\0\x03\x02h2\0\x03\0\x02\x01\xbb"), "SvcParam",
+          (b"h2", b"port=x", b"port", b"key01=x", b'"port=1"', b"key65536", b"KEY9=x", b"=x", b"alpn=h2,,h3")),
     "*": ((None, b"\x01\x02\x03"), None, ()),
 }
 # The mnemonics of types (IANA's registry of DNS parameters).
@@ -607,14 +608,14 @@ def word_rows(rtype, kinds):
         before = b" ".join(texts[:place])
         at = len(before) + 1 if place else 0
         fault = (len(before), "MissingWord") if place == len(kinds) - 1 else None
-        octets = octets_of(fields[:place]) if kind in "oO" else None
+        octets = octets_of(fields[:place]) if kind in "oOP" else None
         yield read(rtype, b" ".join(texts[:place] + texts[place + 1:]), octets, fault=fault)
         yield read(rtype, b" ".join(texts[:place] + 2 * texts[place:place + 1] + texts[place + 1:]))
         for wrong in KINDS[kind][2]:
             changed = b" ".join(texts[:place] + [wrong] + texts[place + 1:])
             yield read(rtype, changed, fault=(at, KINDS[kind][1]))
     whole = text_of(fields)
-    extra = None if kinds[-1] in "ShbBO" else (len(whole) + 1, "ExtraWord")
+    extra = None if kinds[-1] in "ShbBOP" else (len(whole) + 1, "ExtraWord")
     yield from (read(rtype, whole + b" " + it, fault=extra) for it in (b"00", b'""', b"x.", b"\\# 0", b"AA=="))
 
 
@@ -1256,10 +1257,6 @@ def drawn_plain(draw, kind):
     if kind == "K":
         octets = draw.randbytes(draw.choice([0, 1, 16]))
         return struct.pack("!H", len(octets)) + octets
-    if kind == "P":
-        keys = sorted(draw.sample(range(10, 65536), draw.choice([0, 1, 2, 3])))
-        values = [(key, draw.randbytes(draw.choice([0, 1, 2, 7]))) for key in keys]
-        return b"".join(struct.pack("!HH", key, len(value)) + value for key, value in values)
     return draw.randbytes(draw.choice([0, 1, 2, 4, 15]))
 
 
@@ -1301,7 +1298,16 @@ def drawn_field(draw, kind):
         return hash_text(octets), bytes([len(octets)]) + octets
     if kind in "BO":
         return drawn_types(draw, kind)
+    if kind == "P":
+        keys = sorted(draw.sample(range(10, 65536), draw.choice([0, 1, 2, 3])))
+        return parameters([(b"key%d" % key, key, draw.randbytes(draw.choice([0, 1, 2, 7]))) for key in keys])
     return None, drawn_plain(draw, kind)
+
+
+def parameters(listed):
+    """Parameters, each by a word, a key and a value that is text, and their octets."""
+    words = [word + (b"=" + string_field(value) if value else b"") for word, _key, value in listed]
+    return b" ".join(words), b"".join(struct.pack("!HH", key, len(value)) + value for _word, key, value in listed)
 
 
 def drawn_types(draw, kind):
@@ -1415,6 +1421,64 @@ def drawn_rows():
         yield read(rtype, changed(draw, text)) if is_changed else read(rtype, text, octets)
 
 
+FOO, FOO_ORG = b"\x03foo\x07example\x03com\0", b"\x03foo\x07example\x03org\0"
+HINTS = b"\x20\x01\x0d\xb8" + bytes(11) + b"\x01\x20\x01\x0d\xb8" + bytes(9) + b"\x53\0\x01"
+# RFC 9460, D: data of SVCB, and its octets. Where it is written otherwise here, the text of that.
+SERVICES = [
+    (b"0 foo.example.com.", b"\0\0" + FOO, None),
+    (b"1 .", b"\0\x01\0", None),
+    (b"16 foo.example.com. port=53", b"\0\x10" + FOO + b"\0\x03\0\x02\0\x35", b'16 foo.example.com. port="53"'),
+    (b"1 foo.example.com. key667=hello", b"\0\x01" + FOO + b"\x02\x9b\0\x05hello", b'1 foo.example.com. key667="hello"'),
+    (b'1 foo.example.com. key667="hello\\210qoo"', b"\0\x01" + FOO + b"\x02\x9b\0\x09hello\xd2qoo", None),
+    (b'1 foo.example.com. ipv6hint="2001:db8::1,2001:db8::53:1"', b"\0\x01" + FOO + b"\0\x06\0\x20" + HINTS, None),
+    (b'1 example.com. ipv6hint="2001:db8:122:344::192.0.2.33"',
+     b"\0\x01\x07example\x03com\0\0\x06\0\x10\x20\x01\x0d\xb8\x01\x22\x03\x44\0\0\0\0\xc0\0\x02\x21",
+     b'1 example.com. ipv6hint="2001:db8:122:344::c000:221"'),
+    (b"16 foo.example.org. alpn=h2,h3-19 mandatory=ipv4hint,alpn ipv4hint=192.0.2.1",
+     b"\0\x10" + FOO_ORG + b"\0\0\0\x04\0\x01\0\x04\0\x01\0\x09\x02h2\x05h3-19\0\x04\0\x04\xc0\0\x02\x01",
+     b'16 foo.example.org. mandatory="alpn,ipv4hint" alpn="h2,h3-19" ipv4hint="192.0.2.1"'),
+    (b'16 foo.example.org. alpn="f\\\\\\\\oo\\\\,bar,h2"',
+     b"\0\x10" + FOO_ORG + b"\0\x01\0\x0c\x08f\\oo,bar\x02h2", None),
+    (b"16 foo.example.org. alpn=f\\\\\\092oo\\092,bar,h2",
+     b"\0\x10" + FOO_ORG + b"\0\x01\0\x0c\x08f\\oo,bar\x02h2", b'16 foo.example.org. alpn="f\\\\\\\\oo\\\\,bar,h2"'),
+]
+# Words that are no parameters or come twice, each after `1 foo.example.com. ` and the words before it (RFC 9460, D.3).
+NO_SERVICES = [
+    (b"key123=abc ", b"key123=def"), (b"", b"mandatory"), (b"", b"alpn"), (b"", b"port"), (b"", b"ipv4hint"),
+    (b"", b"ipv6hint"), (b"", b"no-default-alpn=abc"), (b"", b"mandatory=mandatory"),
+    (b"", b"mandatory=key123,key123 key123=abc"), (b"", b"ech"), (b"", b"ech=AA"), (b"", b"dohpath="), (b"", b"port=65536"),
+    (b"", b"port=-1"), (b"", b"ipv4hint=192.0.2"), (b"", b"ipv4hint=192.0.2.1,"), (b"", b"ipv6hint=::1,::g"),
+    (b"", b"alpn=,"), (b"", b"alpn=h2\\\\x"), (b"", b"alpn=" + b"x" * 256), (b"", b'alpn="h2"x'), (b"", b"Port=1"),
+    (b"", b"key00=x"), (b"", b"key=x"), (b"", b"key65536=x"), (b"", b"p\\111rt=1"), (b"alpn=h2 ", b"key1=\\002h3"),
+]
+# Octets of parameters whose values aren't as their keys want them, and how they are written (RFC 9460, 2.1).
+OTHERS = [
+    (b"\0\x03\0\x01\x35", b'key3="5"'), (b"\0\x01\0\0", b"key1"), (b"\0\x02\0\x01x", b'key2="x"'),
+    (b"\0\x04\0\x03abc", b'key4="abc"'), (b"\0\x06\0\x04abcd", b'key6="abcd"'), (b"\0\x05\0\0", b"key5"),
+    (b"\0\x07\0\0", b"key7"), (b"\0\x08\0\x01y", b'key8="y"'), (b"\0\x01\0\x02\x05h", b'key1="\\005h"'),
+    (b"\0\x01\0\x01\0", b'key1="\\000"'), (b"\0\0\0\x02\0\0", b'key0="\\000\\000"'),
+    (b"\0\x02\0\0\0\x07\0\x01/\0\x08\0\0\0\x09\0\0", b'no-default-alpn dohpath="/" ohttp key9'),
+    (b"\xff\xff\0\x01\x22", b'key65535="\\""'),
+]
+
+
+def service_rows():
+    """Service parameters: the examples of RFC 9460, D, words that are none, and values that their keys don't want."""
+    for rtype in (64, 65):
+        for text, octets, other in SERVICES:
+            yield read(rtype, text, octets)
+            yield show(rtype, octets, other or text)
+        for before, word in NO_SERVICES:
+            front = b"1 foo.example.com. " + before
+            yield read(rtype, front + word, fault=(len(front), "SvcParam"))
+        yield read(rtype, b"1 . mandatory=key123", fault=(4, "MandatoryKey"))
+        yield read(rtype, b"1 . port=1 mandatory=alpn,port", fault=(4, "MandatoryKey"))
+        for octets, text in OTHERS:
+            yield from both(rtype, b"1 . " + text, b"\0\x01\0" + octets)
+        absent = b"\0\x01\0\0\0\0\x02\0\x01"  # a mandatory key that has no parameter
+        yield show(rtype, absent, generic(absent))
+
+
 def rows():
     """Each heading and each line, with its answer or None."""
     yield b"# data of the RFCs, both ways, texts that are read otherwise, and texts that are refused", None
@@ -1438,6 +1502,7 @@ def rows():
         ("strings, tags and data at their limits", length_rows),
         ("IPv6 and IPv4 addresses", address_rows),
         ("points in time", time_rows),
+        ("service parameters", service_rows),
         ("types by mnemonic and number", type_rows),
         ("base64, hexadecimal digits and salts", encoded_rows),
         ("hashes in base32hex", hash_rows),

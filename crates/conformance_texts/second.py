@@ -7,7 +7,7 @@ A second reader and writer of record data, written from the standards: RFC 1035 
 character strings, numbers and words; RFC 3597 (4 and 5) for data of any type and for the names of types; RFC 4291
 (2.2) and 5952 (4) for IPv6 addresses; RFC 4034 (3.2 and 4.1.2) for points in time and bitmaps of types; RFC 4648
 (4, 7 and 8) for base64, base32hex and hexadecimal digits; RFC 5155 (3.2 and 3.3) for salts and hashes; RFC 8659 (4.1)
-for tags; RFC 9460 (2.2) for service parameters; and the RFC of each type, which is beside its line of `FIELDS`. Where
+for tags; RFC 9460 (2, 7, 8 and A) and 9461 (5) for service parameters; and the RFC of each type, which is beside its line of `FIELDS`. Where
 these leave a choice, it is that of the pages of `domain_rdata_text` and `domain_descriptor`.
 """
 import base64
@@ -412,15 +412,104 @@ def read_types(words):
     return bitmaps_of(types)
 
 
+# Service parameters (RFC 9460, 2.1 and 2.2)
+
+# The words of the keys from 0 on (RFC 9460, 14.3.2; RFC 9461, 5; RFC 9540, 4)
+KEYS = b"mandatory alpn no-default-alpn port ipv4hint ech ipv6hint dohpath ohttp".split()
+ITEM = rb"(?:[^,\\]|\\[,\\])+"
+
+
+def key_of(word):
+    """Returns the key that a word is: one of `KEYS`, or `key` and a number without a zero before it."""
+    if word in KEYS:
+        return KEYS.index(word)
+    found = re.fullmatch(rb"key(0|[1-9][0-9]{0,4})", word)
+    return int(found[1]) if found and int(found[1]) < 65536 else None
+
+
+def items_of(text):
+    """Returns the items of a list, between which are commas (RFC 9460, A.1); none where it is no list."""
+    if not re.fullmatch(ITEM + b"(?:," + ITEM + b")*", text, re.S):
+        return []
+    return [re.sub(rb"\\(.)", rb"\1", it, flags=re.S) for it in re.findall(ITEM, text, re.S)]
+
+
+def list_octets(text, form):
+    """Returns the octets of the items of a list, each of which is read alike."""
+    octets = [form(it) for it in items_of(text)]
+    return None if None in octets or not octets else b"".join(octets)
+
+
+def mandatory_octets(text):
+    """Returns keys in ascending order, each once and none `mandatory` itself (RFC 9460, 8)."""
+    keys = [key_of(it) for it in items_of(text)]
+    if not keys or None in keys or 0 in keys or len(set(keys)) != len(keys):
+        return None
+    return b"".join(key.to_bytes(2, "big") for key in sorted(keys))
+
+
+def ech_octets(text):
+    """Returns the octets of one base64 text, one or more (RFC 9848, 4)."""
+    try:
+        return read_base64([(0, text)]) or None
+    except Refused:
+        return None
+
+
+# How the text of a value is read, by its key (RFC 9460, 7 and 8; RFC 9461, 5; RFC 9540, 4)
+VALUE_FORMS = {
+    0: mandatory_octets,
+    1: lambda text: list_octets(text, counted),
+    2: lambda text: None if text else b"",
+    3: lambda text: number_octets(text, 2),
+    4: lambda text: list_octets(text, ipv4_octets),
+    5: ech_octets,
+    6: lambda text: list_octets(text, ipv6_octets),
+    7: lambda text: text or None,
+    8: lambda text: None if text else b"",
+}
+
+
+def parameter_of(word):
+    """Returns the key and the value of a parameter. A key by its number has the octets of the text as its value."""
+    key_word, _sign, rest = word.partition(b"=")
+    key, text = key_of(key_word), text_octets(rest) if rest else b""
+    if key is None or text is None:
+        return None
+    value = VALUE_FORMS[key](text) if key_word in KEYS else text
+    return None if value is None or len(value) > MOST_DATA else (key, value)
+
+
+def has_mandatory(values):
+    """Returns whether each mandatory key has a value (RFC 9460, 8)."""
+    mandatory = values.get(0, b"")
+    return all(int.from_bytes(mandatory[at:at + 2], "big") in values for at in range(0, len(mandatory) - 1, 2))
+
+
+def read_parameters(words):
+    """Returns the octets of parameters, by ascending keys (RFC 9460, 2.2), of words in any order."""
+    values = {}
+    for begin, word in words:
+        found = parameter_of(word)
+        if found is None or found[0] in values:
+            raise Refused(begin, "SvcParam")
+        values[found[0]] = found[1]
+    if not has_mandatory(values):
+        raise Refused(words[0][0], "MandatoryKey")
+    return b"".join(key.to_bytes(2, "big") + len(value).to_bytes(2, "big") + value
+                    for key, value in sorted(values.items()))
+
+
 END_FORMS = {
     "CharStrings": lambda words: read_each(words, string_octets, "CharString"),
     "Base16": lambda words: read_each(words, hex_octets, "Base16"),
     "Base64": read_base64,
     "TypeBitmaps": read_types,
     "OptionalTypeBitmaps": read_types,
+    "SvcParams": read_parameters,
 }
 # Kinds of which a field may have no word.
-ABSENT = ("OptionalString", "OptionalTypeBitmaps")
+ABSENT = ("OptionalString", "OptionalTypeBitmaps", "SvcParams")
 
 
 def read_field(kind, words, origin):
@@ -714,6 +803,65 @@ def show_types(octets):
     return b" ".join(show_rtype(it.to_bytes(2, "big")) for it in types)
 
 
+def parameters_in(octets):
+    """Returns the key and the value of each parameter."""
+    found, at = [], 0
+    while at < len(octets):
+        end = at + 4 + int.from_bytes(octets[at + 2:at + 4], "big")
+        found.append((int.from_bytes(octets[at:at + 2], "big"), octets[at + 4:end]))
+        at = end
+    return found
+
+
+def numbered_word(key, value):
+    """Returns a parameter by the number of its key (RFC 9460, 2.1)."""
+    return b"key%d" % key + (b"=" + show_text(value) if value else b"")
+
+
+def each_of(value, size, form):
+    """Returns the texts of items of `size` octets each."""
+    return b",".join(form(value[at:at + size]) for at in range(0, len(value), size))
+
+
+def show_protocols(value):
+    """Returns protocols, in which a comma and a backslash take a backslash (RFC 9460, A.1)."""
+    items, at = [], 0
+    while at < len(value):
+        items.append(re.sub(rb"([,\\])", rb"\\\1", value[at + 1:at + 1 + value[at]]))
+        at += 1 + value[at]
+    return b",".join(items)
+
+
+def show_key(octets):
+    """Returns the word of a key, or `key` and its number."""
+    key = int.from_bytes(octets, "big")
+    return KEYS[key] if key < len(KEYS) else b"key%d" % key
+
+
+# The text of a value, by its key
+VALUES_SHOWN = {
+    0: lambda value: each_of(value, 2, show_key), 1: show_protocols, 3: show_number,
+    4: lambda value: each_of(value, 4, show_ipv4), 5: base64.b64encode, 6: lambda value: each_of(value, 16, show_ipv6),
+}
+
+
+def show_parameter(key, value):
+    """Returns a parameter by its key's word, if the word says the same value, else by the key's number."""
+    if key >= len(KEYS):
+        return numbered_word(key, value)
+    try:
+        text = VALUES_SHOWN.get(key, bytes)(value)
+    except (IndexError, TypeError):
+        return numbered_word(key, value)
+    word = KEYS[key] + (b"=" + show_text(text) if text else b"")
+    return word if parameter_of(word) == (key, value) else numbered_word(key, value)
+
+
+def show_parameters(octets):
+    """Returns parameters with a space between two."""
+    return b" ".join(show_parameter(*it) for it in parameters_in(octets))
+
+
 # How a field of each kind is written. A kind that isn't here has no form of its own.
 SHOWN = {
     "Number8": show_number, "Number16": show_number, "Number32": show_number, "Ttl": show_number,
@@ -721,7 +869,7 @@ SHOWN = {
     "Name": show_name, "CharString": show_strings, "OptionalString": show_strings, "CharStrings": show_strings,
     "QuotedText": show_text, "Tag": lambda octets: octets[1:], "Base16": binascii.hexlify, "Base64": base64.b64encode,
     "CountedBase16": lambda octets: binascii.hexlify(octets[1:]) or b"-", "CountedBase32": show_hash,
-    "TypeBitmaps": show_types, "OptionalTypeBitmaps": show_types,
+    "TypeBitmaps": show_types, "OptionalTypeBitmaps": show_types, "SvcParams": show_parameters,
 }
 # Kinds of which a field without octets has no word.
 WITHOUT_WORD = ("Base16", "Base64")
@@ -729,9 +877,11 @@ WITHOUT_WORD = ("Base16", "Base64")
 
 def is_shown(kind, octets):
     """Returns whether a field has a text. One without octets has none, nor have bitmaps that end in a zero octet, which
-    RFC 4034, 4.1.2, has to be omitted."""
+    RFC 4034, 4.1.2, has to be omitted, nor have parameters without one that is mandatory (RFC 9460, 8)."""
     if "TypeBitmaps" in kind:
         return all(bitmap[-1] for _window, bitmap in blocks_in(octets))
+    if kind == "SvcParams":
+        return has_mandatory(dict(parameters_in(octets)))
     return kind in SHOWN and (octets or kind not in WITHOUT_WORD)
 
 

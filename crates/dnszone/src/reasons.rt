@@ -29,6 +29,8 @@ fn data_text(reason: Reason) -> &'static str {
         Reason::Base64 => "not base64",
         Reason::CountedBase16 => "not a hyphen or hexadecimal digits",
         Reason::CountedBase32 => "not base32hex digits",
+        Reason::SvcParam => "not a service parameter, or its key again",
+        Reason::MandatoryKey => "a mandatory key has no parameter",
         Reason::OnlyGeneric => r"data of this type is taken after \# alone",
         Reason::OctetCount => r"not as many octets as \# states",
         Reason::NotData => "not data of this type",

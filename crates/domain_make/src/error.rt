@@ -102,6 +102,8 @@ fn reason_text(reason: Reason) -> &'static str
         Reason::Base64 => "no base64",
         Reason::CountedBase16 => "no hyphen and no hexadecimal digits",
         Reason::CountedBase32 => "no base32hex digits",
+        Reason::SvcParam => "no service parameter, or its key again",
+        Reason::MandatoryKey => "service parameters without one that is mandatory",
         Reason::OnlyGeneric => "data of this type is read in the form \\# alone",
         Reason::OctetCount => "another number of octets than \\# states",
         Reason::NotData => "no data of this type",

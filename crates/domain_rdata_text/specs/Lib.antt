@@ -12,6 +12,7 @@ pub mod Ipv6
 pub mod Base64
 pub mod Base32
 pub mod Bitmaps
+pub mod Params
 pub mod Forms
 pub mod Values
 pub mod Texts

@@ -43,6 +43,10 @@ pub enum Reason {
     CountedBase16,
     /// The word isn't base32hex digits of 1 to 255 octets (RFC 5155, 3.3).
     CountedBase32,
+    /// The word isn't a service parameter, or its key comes twice (RFC 9460, 2.1 and 7).
+    SvcParam,
+    /// From this word on are service parameters, and a mandatory key has none (RFC 9460, 8).
+    MandatoryKey,
     /// A field that has no form of its own: data of its type is read after `\#` alone.
     OnlyGeneric,
     /// After `\#` there aren't as many octets as this number says.
