@@ -3,3 +3,6 @@ pub mod Outcomes
 pub mod Fronts
 pub mod Naming
 pub mod Owning
+pub mod Cutting
+pub mod Named
+pub mod Lines
