@@ -272,23 +272,27 @@ def ipv6_octets(word):
     return front + bytes(zeros) + back
 
 
-def name_octets(word):
-    """Returns an absolute name, which has its final dot (RFC 1035, 3.1 and 5.1)."""
-    if word == b".":
-        return b"\0"
+def name_octets(word, origin=None):
+    """Returns a name (RFC 1035, 3.1 and 5.1). Without its final dot it goes on with the origin, and `@` alone is the
+    origin, if there is one."""
+    if word in (b"@", b"."):
+        return origin if word == b"@" else b"\0"
     parts = symbols(word)
-    if parts is None or QUOTE in parts or parts[-1] != DOT:
+    if parts is None or QUOTE in parts:
         return None
-    octets, label = b"", []
+    labels = [[]]
     for part in parts:
-        if part != DOT:
-            label.append(part)
-            continue
-        if not 1 <= len(label) <= MOST_LABEL:
-            return None
-        octets += bytes([len(label)]) + octets_in(label)
-        label = []
-    return octets + b"\0" if len(octets) < MOST_NAME else None
+        if part == DOT:
+            labels.append([])
+        else:
+            labels[-1].append(part)
+    if parts[-1] == DOT:
+        labels.pop()
+        origin = b"\0"
+    if origin is None or not all(1 <= len(label) <= MOST_LABEL for label in labels):
+        return None
+    octets = b"".join(bytes([len(label)]) + octets_in(label) for label in labels) + origin
+    return octets if len(octets) <= MOST_NAME else None
 
 
 def text_octets(word):
@@ -419,8 +423,8 @@ END_FORMS = {
 ABSENT = ("OptionalString", "OptionalTypeBitmaps")
 
 
-def read_field(kind, words):
-    """Returns the octets of the field that words begin with, and the words after it."""
+def read_field(kind, words, origin):
+    """Returns the octets of the field that words begin with, and the words after it. Names go on with the origin."""
     if not words and kind in ABSENT:
         return b"", []
     begin, word = words[0]
@@ -429,7 +433,7 @@ def read_field(kind, words):
     if kind not in WORD_FORMS:
         raise Refused(begin, "OnlyGeneric")
     form, reason = WORD_FORMS[kind]
-    octets = form(word)
+    octets = form(word, origin) if kind == "Name" else form(word)
     if octets is None:
         raise Refused(begin, reason)
     return octets, words[1:]
@@ -451,8 +455,9 @@ def read_generic(rtype, rclass, words, end):
     return octets
 
 
-def read(rtype, rclass, text):
-    """Returns the octets of the data that a text says, without compressed names (RFC 1035, 5.1; RFC 3597, 5)."""
+def read(rtype, rclass, text, origin=None):
+    """Returns the octets of the data that a text says, without compressed names (RFC 1035, 5.1; RFC 3597, 5). Without
+    an origin each name has its final dot."""
     words = split_words(text)
     if words and words[0][1] == GENERIC:
         return read_generic(rtype, rclass, words, len(text))
@@ -460,7 +465,7 @@ def read(rtype, rclass, text):
     for kind in kinds_of(rtype, rclass):
         if not words and kind not in ABSENT:
             raise Refused(len(text), "MissingWord")
-        octets, words = read_field(kind, words)
+        octets, words = read_field(kind, words, origin)
         data.append(octets)
     if words:
         raise Refused(words[0][0], "ExtraWord")

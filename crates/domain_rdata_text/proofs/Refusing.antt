@@ -4,8 +4,9 @@ use Rattle.domain_rdata_text.specs.declared.error.Fault.{Fault}
 use Rattle.domain_rdata_text.specs.declared.error.ReadError.{ReadError}
 use Rattle.domain_rdata_text.specs.declared.error.ReadError.TheVariants.{Refused, Memory}
 use Rattle.domain_rdata_text.specs.declared.error.Reason.{Reason}
+use Rattle.domain_rdata_text.specs.declared.error.Reason.TheVariants as reasons
 use Rattle.domain_rdata_text.specs.Outcome.{fault}
-use Rattle.domain_rdata_text.specs.Texts.{with_octets, one}
+use Rattle.domain_rdata_text.specs.Texts.{with_octets, with_more, one}
 use Rattle.domain_rdata_text.specs.Values.{Val}
 use Rattle.domain_rdata_text.specs.Words.{WordAt}
 
@@ -25,6 +26,14 @@ pub one_refused : {A : Type 0} (g : A → Val) (os : List ℕ) (why : Reason) (w
 one_refused {A} g os why w ws o e ref is given err =
     refused_so (one why w ws (with_octets g os o)) (o ≡ None) e ref given err
     (λ none. ap (λ (x : Option A). one why w ws (with_octets g os x)) none ∙ ap Err (sym is))
+
+-- of a name
+pub name_refused : (os : List ℕ) (w : WordAt) (ws : List WordAt) (o : Option (List ℕ)) (e : ReadError) (ref : Fault)
+    → ref ≡ fault w.begin reasons.Name → ((f : Fault) → e ≡ Refused f → f ≡ ref) → (e ≡ Refused ref → o ≡ None)
+    → (f : Fault) → e ≡ Refused f → one reasons.Name w ws (with_more os o) ≡ Err f
+name_refused os w ws o e ref is given err =
+    refused_so (one reasons.Name w ws (with_more os o)) (o ≡ None) e ref given err
+    (λ none. ap (λ (x : Option (List ℕ)). one reasons.Name w ws (with_more os x)) none ∙ ap Err (sym is))
 
 fault_in : Fault → ReadError → Fault
 fault_in d (Refused f) = f

@@ -1,7 +1,6 @@
 pub mod Splitting
 pub mod Outcomes
 pub mod Fronts
-pub mod Naming
 pub mod Owning
 pub mod Cutting
 pub mod Named

@@ -2,7 +2,6 @@ pub mod Outcome
 pub mod Entries
 pub mod Ttls
 pub mod Mnemonics
-pub mod Names
 pub mod Heads
 pub mod Directives
 pub mod Meanings

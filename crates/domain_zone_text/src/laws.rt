@@ -1,11 +1,9 @@
 //! Laws of the text of zones.
-ghost use Rattle.std.specs.Prelude.{◌≡◌, ℕ, List, [], Ok, Some};
-ghost use Rattle.domain_label.specs.Wire.{IsAbsoluteWire};
+ghost use Rattle.std.specs.Prelude.{◌≡◌, ℕ, List, [], Ok};
 ghost use Rattle.domain_zone_text.specs.declared.error.EntryFault.{EntryFault};
 ghost use Rattle.domain_zone_text.specs.Entries.{cut, IsLinesAndRest, part};
 ghost use Rattle.domain_zone_text.specs.Lines.{Written, IsRecord, ReadsRecords, record_lines};
 ghost use Rattle.domain_zone_text.specs.Meanings.{HasWords, Setting};
-ghost use Rattle.domain_zone_text.specs.Names.{name};
 ghost use Rattle.domain_zone_text.specs.Reading.{EntrySaid, HasNames, IsEntryFault, ReadsEntry, SaysNames};
 
 /// The call does nothing: its contract is the law. No text has both, a first entry and a fault of it. So
@@ -37,13 +35,6 @@ pub fn words_law()
 pub fn lines_law()
     ensures { (text octets rest : List ℕ) → cut [] text ≡ Ok (part octets rest)
         → IsLinesAndRest text octets rest }
-{}
-
-/// The call does nothing: its contract is the law. A name that a word is, where the origin is in wire format, is in
-/// wire format (RFC 1035, 3.1): it has labels of 1 to 63 octets, the root, and at most 255 octets.
-pub fn name_law()
-    ensures { (origin word os : List ℕ) → IsAbsoluteWire origin → name origin word ≡ Some os
-        → IsAbsoluteWire os }
 {}
 
 /// The call does nothing: its contract is the law. Each name of an entry, and each that it leaves for the next one, is
