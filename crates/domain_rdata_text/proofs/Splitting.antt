@@ -129,9 +129,9 @@ quoted_digits c = stays_append Quoted (92 ∷ (48 + c / 100) ∷ []) ((48 + c / 
     (stays_append Quoted ((48 + c / 10 % 10) ∷ []) ((48 + c % 10) ∷ []) (quoted_digit (c / 10 % 10) (omega arith)) (quoted_digit (c % 10) (omega arith)))
 
 -- neither an octet with a meaning of its own nor one that is printed is the end of a line
-record NoEnd (s u : Bool) (c : ℕ) : Type 0 where
-  marked : s ≡ true → (c == 10) ≡ false
-  printed : s ≡ false → u ≡ false → (c == 10) ≡ false
+pub record NoEnd (s u : Bool) (c : ℕ) : Type 0 where
+  pub marked : s ≡ true → (c == 10) ≡ false
+  pub printed : s ≡ false → u ≡ false → (c == 10) ≡ false
 
 pub quoted_stays : (s u : Bool) (c : ℕ) → NoEnd s u c → (s ≡ false → u ≡ false → (c == 34) ≡ false) → (s ≡ false → u ≡ false → (c == 92) ≡ false) → Stays Quoted (octet_text s u c)
 quoted_stays true u c e j k = quoted_slash c (e.marked refl)
