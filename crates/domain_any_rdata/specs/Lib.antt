@@ -7,3 +7,4 @@ pub mod Whole
 pub mod OneFault
 pub mod Reading
 pub mod Back
+pub mod Texts

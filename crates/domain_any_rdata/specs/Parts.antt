@@ -1,6 +1,6 @@
 -- The fields of record data as parts: names, and octets that are no name (`Part` of domain_fields). Functions of the
 -- octets, so that ghost members can say them: where fields are, `parts_at` are what they are (proofs/Named).
-use Rattle.std.specs.Prelude.{ℕ, List, [], ◌∷◌, slice_range}
+use Rattle.std.specs.Prelude.{ℕ, List, [], ◌∷◌, drop, slice_range}
 use Rattle.std.specs.Coded.{×_prop, Unit-prop}
 use Rattle.domain_label.specs.Wire.{IsAbsoluteName}
 use Rattle.domain_label.proofs.WireLaws.{IsAbsoluteName_prop}
@@ -39,7 +39,11 @@ abbrev pub parts_at : List FieldKind → List ℕ → ℕ → List Part
 parts_at [] m p = []
 parts_at (kind ∷ kinds) m p = field_part kind m p (field_stop kind m p) ∷ parts_at kinds m (field_stop kind m p)
 
--- those of record data, of one field, and of the remaining fields
+-- the octets of record data as they are in the message
+abbrev pub rdata_octets : Rdata → List ℕ
+rdata_octets it = drop (rdata_begin it) (rdata_message it)
+
+-- the parts of record data, of one field, and of the remaining fields
 abbrev pub rdata_parts : Rdata → List Part
 rdata_parts it = parts_at (rdata_kinds it) (rdata_message it) (rdata_begin it)
 

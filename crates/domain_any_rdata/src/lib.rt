@@ -7,6 +7,7 @@ mod len;
 pub mod name_form;
 mod read;
 mod read_back;
+mod text;
 
 pub use all::AllRecordData;
 pub use name_form::NameForm;

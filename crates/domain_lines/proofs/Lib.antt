@@ -1,4 +1,3 @@
-pub mod Naming
 pub mod InAndOut
 pub mod Showing
 pub mod Entries

@@ -2,7 +2,7 @@
 use Rattle.std.proofs.Common.{◌≡◌, ℕ, ◌<◌, List, [], ◌∷◌, ◌++◌, length, refl, sym, ap, ◌∙◌, append_assoc, append-nil, arith}
 use Rattle.std.specs.List.{flat_map}
 use Rattle.domain_label.specs.Text.{or_dot}
-use Rattle.domain_lines.specs.Names.{zone_label, zone_name}
+use Rattle.domain_field_text.specs.Names.{zone_label, zone_name}
 
 -- one label more with its dot
 pub more_named : (text new l all : List ℕ) (s t : List (List ℕ)) → text ++ flat_map zone_label s ≡ all → s ≡ l ∷ t → new ≡ text ++ zone_label l → new ++ flat_map zone_label t ≡ all

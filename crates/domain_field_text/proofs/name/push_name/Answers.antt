@@ -1,8 +1,8 @@
 use Rattle.std.proofs.Common.{rules, ◌∙◌}
 use Rattle.domain_label.specs.Labels.{label_octets}
 use Rattle.domain_list.proofs.Shown.{less_room, label_room}
-use Rattle.domain_lines.proofs.Naming.{more_named, named_some, named_none}
-use Rattle.domain_lines.proofs.name.push_name.Goals as goal
+use Rattle.domain_field_text.proofs.Naming.{more_named, named_some, named_none}
+use Rattle.domain_field_text.proofs.name.push_name.Goals as goal
 
 pub push_with_dot-requires : goal.push_with_dot-requires
 push_with_dot-requires g c = record {

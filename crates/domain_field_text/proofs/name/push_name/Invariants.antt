@@ -2,8 +2,8 @@ use Rattle.std.proofs.Common.{◌≡◌, ◌≤◌, ◌+◌, ◌*◌, ◌++◌, 
 use Rattle.std.specs.List.{flat_map}
 use Rattle.std.specs.Str.{IsAscii}
 use Rattle.domain_label.specs.Wire.{wire}
-use Rattle.domain_lines.specs.Names.{zone_label}
-use Rattle.domain_lines.proofs.name.push_name.Given as goal
+use Rattle.domain_field_text.specs.Names.{zone_label}
+use Rattle.domain_field_text.proofs.name.push_name.Given as goal
 
 abbrev pub invariant-loop-label : goal.invariant-loop-label
 invariant-loop-label g l = record {

@@ -2,7 +2,7 @@ use Rattle.std.proofs.Common.{take}
 use Rattle.std.specs.Fmt.{HasWritten, IsPlainFormatter}
 use Rattle.std.specs.List.{flat_map}
 use Rattle.domain_rdata.specs.AnyData.{spaced_octet}
-use Rattle.domain_lines.proofs.edns.HexPairsDisplay.fmt.Given as goal
+use Rattle.domain_field_text.proofs.octets.HexPairsDisplay.fmt.Given as goal
 
 abbrev pub invariant-loop-octet : goal.invariant-loop-octet
 invariant-loop-octet g l =

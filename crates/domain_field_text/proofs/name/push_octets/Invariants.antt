@@ -1,8 +1,8 @@
 use Rattle.std.proofs.Common.{◌≡◌, ◌≤◌, ◌+◌, ◌*◌, ◌++◌, length, take}
 use Rattle.std.specs.List.{flat_map}
 use Rattle.std.specs.Str.{IsAscii}
-use Rattle.domain_lines.specs.Names.{zone_octet}
-use Rattle.domain_lines.proofs.name.push_octets.Given as goal
+use Rattle.domain_field_text.specs.Names.{zone_octet}
+use Rattle.domain_field_text.proofs.name.push_octets.Given as goal
 
 abbrev pub invariant-loop-octet : goal.invariant-loop-octet
 invariant-loop-octet l = record {

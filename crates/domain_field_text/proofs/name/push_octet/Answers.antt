@@ -1,7 +1,7 @@
 use Rattle.std.proofs.Common.{◌≡◌, ℕ, List, [], ◌∷◌, ◌++◌, sym, ap, ◌∙◌, append_assoc, append-nil, cond, true, false}
 use Rattle.domain_label.specs.Text.{escaped, escaped_octet}
-use Rattle.domain_lines.specs.Names.{has_zone_meaning, zone_octet}
-use Rattle.domain_lines.proofs.name.push_octet.Goals as goal
+use Rattle.domain_field_text.specs.Names.{has_zone_meaning, zone_octet}
+use Rattle.domain_field_text.proofs.name.push_octet.Goals as goal
 
 -- An octet after a backslash.
 after_slash : (text mid end : List ℕ) (o : ℕ) → mid ≡ text ++ 92 ∷ [] → end ≡ mid ++ o ∷ [] → zone_octet o ≡ 92 ∷ o ∷ [] → end ≡ text ++ zone_octet o

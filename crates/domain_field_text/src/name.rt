@@ -4,7 +4,7 @@ ghost use Rattle.std.specs.List.{flat_map};
 ghost use Rattle.std.specs.Str.{IsAscii};
 ghost use Rattle.domain_label.specs.Labels.{label_octets};
 ghost use Rattle.domain_label.specs.Wire.{wire};
-ghost use Rattle.domain_lines.specs.Names.{has_zone_meaning, zone_octet, zone_label, zone_name};
+ghost use Rattle.domain_field_text.specs.Names.{has_zone_meaning, zone_octet, zone_label, zone_name};
 
 use arrayvec::ArrayVec;
 use domain_label::Label;
@@ -89,8 +89,8 @@ fn push_name<'a, I: LabelIterator<'a>>(labels: I, text: &mut ArrayVec<u8, 1020>)
 /// A name as the text of a zone has it: with a dot after each label, and a backslash before each octet that has a
 /// meaning there.
 #[derive(Clone, Copy)]
-pub(crate) struct ZoneName<'a, N> {
-    pub(crate) name: &'a N,
+pub struct ZoneName<'a, N> {
+    pub name: &'a N,
 }
 
 impl<'a, N: AbsoluteLabels<'a>> fmt::Display for ZoneName<'a, N> {

@@ -1,0 +1,211 @@
+-- The text of a field of record data that is no name, by what the field is (RFC 1035, 5.1). The words of a field are as
+-- the types of their RFCs have them in `domain_strings`, `domain_dnssec` and `domain_svcb`.
+use Rattle.std.specs.Prelude.{ℕ, zero, suc, ◌+◌, ◌*◌, ◌==◌, nat_le, Bool, true, false, if◌then◌else◌, List, [], ◌∷◌, ◌++◌, length, take, drop, slice_index, Option, Some, None, option_map}
+use Rattle.std.specs.Char.{is_ascii_alphanumeric}
+use Rattle.std.specs.Fmt.{decimal}
+use Rattle.std.specs.List.{flat_map, list_all}
+use Rattle.std.specs.Net.Addr.{segments_of}
+use Rattle.std.specs.Net.Text.{ipv4_text, ipv6_text}
+use Rattle.base64.specs.Engines.{standard}
+use Rattle.base64.specs.GeneralPurpose.{encode_of}
+use Rattle.domain_header.specs.Rtypes.{rtype_text}
+use Rattle.domain_descriptor.specs.declared.kind.FieldKind.{FieldKind}
+use Rattle.domain_descriptor.specs.declared.kind.FieldKind.TheVariants as kinds
+use Rattle.domain_strings.specs.Base16.{base16_text}
+use Rattle.domain_strings.specs.Quoted.{quoted, quoted_strings}
+use Rattle.domain_dnssec.specs.Times.{time_text}
+use Rattle.domain_dnssec.specs.TypeBitmaps.{block_fault, blocks_types}
+use Rattle.domain_dnssec.specs.TypesText.{spaced_type}
+use Rattle.domain_dnssec.specs.declared.type_bitmaps.TypeBitmapsError.{TypeBitmapsError}
+use Rattle.domain_txt.specs.Strings.{strings_in}
+use Rattle.domain_svcb.specs.ParamText.{spaced_param}
+use Rattle.domain_svcb.specs.SvcParams.{param_fault}
+use Rattle.domain_svcb.specs.declared.params.SvcParamsError.{SvcParamsError}
+use Rattle.domain_field_text.specs.Base32.{base32_text}
+
+-- what is before a word: nothing before the first of data, else a space
+abbrev pub lead : Bool → List ℕ
+lead true = []
+lead false = 32 ∷ []
+
+-- a word of data, where there is one
+abbrev pub led : Bool → Option (List ℕ) → Option (List ℕ)
+led first None = None
+led first (Some w) = Some (lead first ++ w)
+
+-- the number that one, two or four octets are, the high one first (RFC 1035, 2.3.2)
+abbrev pub number_of : List ℕ → Option ℕ
+number_of [] = None
+number_of (a ∷ []) = Some a
+number_of (a ∷ b ∷ []) = Some (a * 256 + b)
+number_of (a ∷ b ∷ c ∷ []) = None
+number_of (a ∷ b ∷ c ∷ d ∷ []) = Some (a * 16777216 + b * 65536 + c * 256 + d)
+number_of (a ∷ b ∷ c ∷ d ∷ e ∷ os) = None
+
+-- the type of records that two octets are
+abbrev pub rtype_of : List ℕ → Option ℕ
+rtype_of [] = None
+rtype_of (a ∷ []) = None
+rtype_of (a ∷ b ∷ []) = Some (a * 256 + b)
+rtype_of (a ∷ b ∷ c ∷ os) = None
+
+-- octets, if they are so many
+abbrev pub exactly : ℕ → List ℕ → Option (List ℕ)
+exactly n os = if length os == n then Some os else None
+
+-- the text of an IPv6 address of sixteen octets (RFC 5952)
+abbrev pub ipv6_octets_text : List ℕ → List ℕ
+ipv6_octets_text os = ipv6_text (segments_of os)
+
+-- octets, if record data can have so many (RFC 1035, 3.2.1)
+abbrev pub few : List ℕ → Option (List ℕ)
+few os = if nat_le (length os) 65535 then Some os else None
+
+-- octets, if there are some, and record data can have so many
+abbrev pub some_few : List ℕ → Option (List ℕ)
+some_few [] = None
+some_few (c ∷ os) = few (c ∷ os)
+
+-- the octets behind one that says how many they are (RFC 1035, 3.3)
+abbrev pub behind_count : List ℕ → Option (List ℕ)
+behind_count [] = None
+behind_count (n ∷ s) = exactly n s
+
+-- the octets of a tag: letters and digits, one or more (RFC 8659, 4.1)
+abbrev pub tag_of : Option (List ℕ) → Option (List ℕ)
+tag_of None = None
+tag_of (Some []) = None
+tag_of (Some (c ∷ s)) = if list_all is_ascii_alphanumeric (c ∷ s) then Some (c ∷ s) else None
+
+-- a character string between quotes, where there is one; or none (RFC 1183, 3.2)
+abbrev pub optional_text : Bool → List ℕ → Option (List ℕ)
+optional_text first [] = Some []
+optional_text first (c ∷ os) = led first (option_map quoted (behind_count (c ∷ os)))
+
+-- character strings, one or more, each between quotes
+abbrev pub strings_text : List ℕ → Option (List ℕ)
+strings_text [] = None
+strings_text (c ∷ os) = Some (quoted_strings (strings_in (c ∷ os)))
+
+-- octets in hexadecimal digits, or a hyphen where there is none (RFC 5155, 3.3)
+abbrev pub counted_text : List ℕ → List ℕ
+counted_text [] = 45 ∷ []
+counted_text (c ∷ os) = base16_text (c ∷ os)
+
+-- octets in base32hex, one or more (RFC 5155, 3.3)
+abbrev pub some_base32 : Option (List ℕ) → Option (List ℕ)
+some_base32 None = None
+some_base32 (Some []) = None
+some_base32 (Some (c ∷ os)) = Some (base32_text (c ∷ os))
+
+-- ---- bitmaps of types
+
+-- a block before others
+abbrev pub with_block : ℕ × List ℕ → Option (List (ℕ × List ℕ)) → Option (List (ℕ × List ℕ))
+with_block b None = None
+with_block b (Some bs) = Some (b ∷ bs)
+
+-- the blocks of octets, where `more` has those after the first, and this is wrong with that one
+abbrev pub next_block : (ℕ → List ℕ → Option (List (ℕ × List ℕ))) → List ℕ → Option TypeBitmapsError → Option (List (ℕ × List ℕ))
+next_block more o (Some why) = None
+next_block more o None =
+    let len = slice_index o 1 in
+    with_block (slice_index o 0, take len (drop 2 o)) (more (slice_index o 0 + 1) (drop (2 + len) o))
+
+-- The blocks, fewer than n, that octets are, of each its window and its bitmap: windows ascend from `least` on (RFC
+-- 4034, 4.1.2).
+abbrev pub blocks_from : ℕ → ℕ → List ℕ → Option (List (ℕ × List ℕ))
+blocks_from zero least o = None
+blocks_from (suc n) least [] = Some []
+blocks_from (suc n) least (c ∷ o) = next_block (blocks_from n) (c ∷ o) (block_fault least (c ∷ o))
+
+-- the blocks that octets are, of which record data can have so many
+abbrev pub blocks_of : List ℕ → Option (List (ℕ × List ℕ))
+blocks_of o = if nat_le (length o) 65535 then blocks_from (suc (length o)) 0 o else None
+
+-- types, each behind a space
+abbrev pub spaced_types : List ℕ → List ℕ
+spaced_types ts = flat_map spaced_type ts
+
+-- the types of bitmaps, one or more
+abbrev pub some_types : List ℕ → Option (List ℕ)
+some_types [] = None
+some_types (t ∷ ts) = Some (spaced_types (t ∷ ts))
+
+abbrev pub types_text : Option (List (ℕ × List ℕ)) → Option (List ℕ)
+types_text None = None
+types_text (Some bs) = some_types (blocks_types bs)
+
+-- the same, where there may be none (RFC 5155, 3.3)
+abbrev pub optional_types : Option (List (ℕ × List ℕ)) → Option (List ℕ)
+optional_types None = None
+optional_types (Some bs) = Some (spaced_types (blocks_types bs))
+
+-- ---- service parameters
+
+-- a parameter before others
+abbrev pub with_param : ℕ × List ℕ → Option (List (ℕ × List ℕ)) → Option (List (ℕ × List ℕ))
+with_param p None = None
+with_param p (Some ps) = Some (p ∷ ps)
+
+-- the number of two octets at an offset
+abbrev pub number_at : List ℕ → ℕ → ℕ
+number_at o p = slice_index o p * 256 + slice_index o (p + 1)
+
+-- the parameters of octets, where `more` has those after the first, and this is wrong with that one
+abbrev pub next_param : (ℕ → List ℕ → Option (List (ℕ × List ℕ))) → List ℕ → Option SvcParamsError → Option (List (ℕ × List ℕ))
+next_param more o (Some why) = None
+next_param more o None =
+    let len = number_at o 2 in
+    with_param (number_at o 0, take len (drop 4 o)) (more (number_at o 0 + 1) (drop (4 + len) o))
+
+-- The parameters, fewer than n, that octets are, of each its key and its value: keys ascend from `least` on (RFC 9460,
+-- 2.2).
+abbrev pub params_from : ℕ → ℕ → List ℕ → Option (List (ℕ × List ℕ))
+params_from zero least o = None
+params_from (suc n) least [] = Some []
+params_from (suc n) least (c ∷ o) = next_param (params_from n) (c ∷ o) (param_fault least (c ∷ o))
+
+-- the parameters that octets are, of which record data can have so many
+abbrev pub params_of : List ℕ → Option (List (ℕ × List ℕ))
+params_of o = if nat_le (length o) 65535 then params_from (suc (length o)) 0 o else None
+
+-- parameters, each behind a space
+abbrev pub spaced_params : List (ℕ × List ℕ) → List ℕ
+spaced_params ps = flat_map spaced_param ps
+
+abbrev pub params_text : Option (List (ℕ × List ℕ)) → Option (List ℕ)
+params_text ps = option_map spaced_params ps
+
+-- ---- a field
+
+-- The text of a field with these octets. Its first word is the first of data, or has a space before it, as each further
+-- word has. Types and parameters are never first. There is no text of octets that aren't such a field, of a name, which
+-- isn't its octets alone, and of a kind without a form of its own: such data has the form of RFC 3597, 5.
+abbrev pub octets_text : Bool → FieldKind → List ℕ → Option (List ℕ)
+octets_text first kinds.Number8 os = led first (option_map decimal (number_of os))
+octets_text first kinds.Number16 os = led first (option_map decimal (number_of os))
+octets_text first kinds.Number32 os = led first (option_map decimal (number_of os))
+octets_text first kinds.Number48 os = None
+octets_text first kinds.Number64 os = None
+octets_text first kinds.Ttl os = led first (option_map decimal (number_of os))
+octets_text first kinds.Serial os = led first (option_map decimal (number_of os))
+octets_text first kinds.Time os = led first (option_map time_text (number_of os))
+octets_text first kinds.Rtype os = led first (option_map rtype_text (rtype_of os))
+octets_text first kinds.Ipv4 os = led first (option_map ipv4_text (exactly 4 os))
+octets_text first kinds.Ipv6 os = led first (option_map ipv6_octets_text (exactly 16 os))
+octets_text first kinds.Name os = None
+octets_text first kinds.CharString os = led first (option_map quoted (behind_count os))
+octets_text first kinds.OptionalString os = optional_text first os
+octets_text first kinds.CharStrings os = led first (strings_text os)
+octets_text first kinds.Tag os = led first (tag_of (behind_count os))
+octets_text first kinds.QuotedText os = led first (option_map quoted (few os))
+octets_text first kinds.CountedBase16 os = led first (option_map counted_text (behind_count os))
+octets_text first kinds.CountedBase32 os = led first (some_base32 (behind_count os))
+octets_text first kinds.CountedBase64 os = None
+octets_text first kinds.TypeBitmaps os = types_text (blocks_of os)
+octets_text first kinds.OptionalTypeBitmaps os = optional_types (blocks_of os)
+octets_text first kinds.SvcParams os = params_text (params_of os)
+octets_text first kinds.Base16 os = led first (option_map base16_text (some_few os))
+octets_text first kinds.Base64 os = led first (option_map (encode_of standard) (some_few os))
+octets_text first kinds.Octets os = None
