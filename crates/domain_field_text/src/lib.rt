@@ -12,3 +12,6 @@ pub use field::FieldText;
 pub use name::ZoneName;
 pub use octets::{HexPairs, UnknownText};
 pub use shown::{Lead, Shown};
+
+#[cfg(test)]
+mod tests;
