@@ -9,3 +9,4 @@ pub mod Back
 pub mod ReadingBack
 pub mod Passing
 pub mod Internet
+pub mod Telling

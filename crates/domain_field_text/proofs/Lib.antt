@@ -1,2 +1,4 @@
 pub mod Naming
 pub mod Cutting
+pub mod Blocks
+pub mod Params

@@ -3,7 +3,7 @@
 use Rattle.std.specs.Prelude.{ℕ, zero, suc, ◌+◌, ◌*◌, ◌==◌, nat_le, Bool, true, false, if◌then◌else◌, List, [], ◌∷◌, ◌++◌, length, take, drop, slice_index, Option, Some, None, option_map}
 use Rattle.std.specs.Char.{is_ascii_alphanumeric}
 use Rattle.std.specs.Fmt.{decimal}
-use Rattle.std.specs.List.{flat_map, list_all}
+use Rattle.std.specs.List.{list_all}
 use Rattle.std.specs.Net.Addr.{segments_of}
 use Rattle.std.specs.Net.Text.{ipv4_text, ipv6_text}
 use Rattle.base64.specs.Engines.{standard}
@@ -15,10 +15,10 @@ use Rattle.domain_strings.specs.Base16.{base16_text}
 use Rattle.domain_strings.specs.Quoted.{quoted, quoted_strings}
 use Rattle.domain_dnssec.specs.Times.{time_text}
 use Rattle.domain_dnssec.specs.TypeBitmaps.{block_fault, blocks_types}
-use Rattle.domain_dnssec.specs.TypesText.{spaced_type}
+use Rattle.domain_dnssec.specs.TypesText.{types_text}
 use Rattle.domain_dnssec.specs.declared.type_bitmaps.TypeBitmapsError.{TypeBitmapsError}
 use Rattle.domain_txt.specs.Strings.{strings_in}
-use Rattle.domain_svcb.specs.ParamText.{spaced_param}
+use Rattle.domain_svcb.specs.ParamText.{params_text}
 use Rattle.domain_svcb.specs.SvcParams.{param_fault}
 use Rattle.domain_svcb.specs.declared.params.SvcParamsError.{SvcParamsError}
 use Rattle.domain_field_text.specs.Base32.{base32_text}
@@ -61,11 +61,6 @@ ipv6_octets_text os = ipv6_text (segments_of os)
 abbrev pub few : List ℕ → Option (List ℕ)
 few os = if nat_le (length os) 65535 then Some os else None
 
--- octets, if there are some, and record data can have so many
-abbrev pub some_few : List ℕ → Option (List ℕ)
-some_few [] = None
-some_few (c ∷ os) = few (c ∷ os)
-
 -- the octets behind one that says how many they are (RFC 1035, 3.3)
 abbrev pub behind_count : List ℕ → Option (List ℕ)
 behind_count [] = None
@@ -82,21 +77,26 @@ abbrev pub optional_text : Bool → List ℕ → Option (List ℕ)
 optional_text first [] = Some []
 optional_text first (c ∷ os) = led first (option_map quoted (behind_count (c ∷ os)))
 
--- character strings, one or more, each between quotes
-abbrev pub strings_text : List ℕ → Option (List ℕ)
-strings_text [] = None
-strings_text (c ∷ os) = Some (quoted_strings (strings_in (c ∷ os)))
+-- the text of a list, if there is one and it has an item
+abbrev pub some_text : {A : Type 0} → (List A → List ℕ) → Option (List A) → Option (List ℕ)
+some_text text None = None
+some_text text (Some []) = None
+some_text text (Some (x ∷ xs)) = Some (text (x ∷ xs))
+
+-- the same as words of data, or nothing if it has none
+abbrev pub any_text : {A : Type 0} → (List A → List ℕ) → Bool → Option (List A) → Option (List ℕ)
+any_text text first None = None
+any_text text first (Some []) = Some []
+any_text text first (Some (x ∷ xs)) = Some (lead first ++ text (x ∷ xs))
+
+-- character strings, each between quotes
+abbrev pub strings_text : List ℕ → List ℕ
+strings_text os = quoted_strings (strings_in os)
 
 -- octets in hexadecimal digits, or a hyphen where there is none (RFC 5155, 3.3)
 abbrev pub counted_text : List ℕ → List ℕ
 counted_text [] = 45 ∷ []
 counted_text (c ∷ os) = base16_text (c ∷ os)
-
--- octets in base32hex, one or more (RFC 5155, 3.3)
-abbrev pub some_base32 : Option (List ℕ) → Option (List ℕ)
-some_base32 None = None
-some_base32 (Some []) = None
-some_base32 (Some (c ∷ os)) = Some (base32_text (c ∷ os))
 
 -- ---- bitmaps of types
 
@@ -109,8 +109,7 @@ with_block b (Some bs) = Some (b ∷ bs)
 abbrev pub next_block : (ℕ → List ℕ → Option (List (ℕ × List ℕ))) → List ℕ → Option TypeBitmapsError → Option (List (ℕ × List ℕ))
 next_block more o (Some why) = None
 next_block more o None =
-    let len = slice_index o 1 in
-    with_block (slice_index o 0, take len (drop 2 o)) (more (slice_index o 0 + 1) (drop (2 + len) o))
+    with_block (slice_index o 0, take (slice_index o 1) (drop 2 o)) (more (slice_index o 0 + 1) (drop (slice_index o 1) (drop 2 o)))
 
 -- The blocks, fewer than n, that octets are, of each its window and its bitmap: windows ascend from `least` on (RFC
 -- 4034, 4.1.2).
@@ -123,23 +122,9 @@ blocks_from (suc n) least (c ∷ o) = next_block (blocks_from n) (c ∷ o) (bloc
 abbrev pub blocks_of : List ℕ → Option (List (ℕ × List ℕ))
 blocks_of o = if nat_le (length o) 65535 then blocks_from (suc (length o)) 0 o else None
 
--- types, each behind a space
-abbrev pub spaced_types : List ℕ → List ℕ
-spaced_types ts = flat_map spaced_type ts
-
--- the types of bitmaps, one or more
-abbrev pub some_types : List ℕ → Option (List ℕ)
-some_types [] = None
-some_types (t ∷ ts) = Some (spaced_types (t ∷ ts))
-
-abbrev pub types_text : Option (List (ℕ × List ℕ)) → Option (List ℕ)
-types_text None = None
-types_text (Some bs) = some_types (blocks_types bs)
-
--- the same, where there may be none (RFC 5155, 3.3)
-abbrev pub optional_types : Option (List (ℕ × List ℕ)) → Option (List ℕ)
-optional_types None = None
-optional_types (Some bs) = Some (spaced_types (blocks_types bs))
+-- the types of the bitmaps that octets are
+abbrev pub types_of : List ℕ → Option (List ℕ)
+types_of o = option_map blocks_types (blocks_of o)
 
 -- ---- service parameters
 
@@ -156,8 +141,7 @@ number_at o p = slice_index o p * 256 + slice_index o (p + 1)
 abbrev pub next_param : (ℕ → List ℕ → Option (List (ℕ × List ℕ))) → List ℕ → Option SvcParamsError → Option (List (ℕ × List ℕ))
 next_param more o (Some why) = None
 next_param more o None =
-    let len = number_at o 2 in
-    with_param (number_at o 0, take len (drop 4 o)) (more (number_at o 0 + 1) (drop (4 + len) o))
+    with_param (number_at o 0, take (number_at o 2) (drop 4 o)) (more (number_at o 0 + 1) (drop (number_at o 2) (drop 4 o)))
 
 -- The parameters, fewer than n, that octets are, of each its key and its value: keys ascend from `least` on (RFC 9460,
 -- 2.2).
@@ -170,18 +154,11 @@ params_from (suc n) least (c ∷ o) = next_param (params_from n) (c ∷ o) (para
 abbrev pub params_of : List ℕ → Option (List (ℕ × List ℕ))
 params_of o = if nat_le (length o) 65535 then params_from (suc (length o)) 0 o else None
 
--- parameters, each behind a space
-abbrev pub spaced_params : List (ℕ × List ℕ) → List ℕ
-spaced_params ps = flat_map spaced_param ps
-
-abbrev pub params_text : Option (List (ℕ × List ℕ)) → Option (List ℕ)
-params_text ps = option_map spaced_params ps
-
 -- ---- a field
 
 -- The text of a field with these octets. Its first word is the first of data, or has a space before it, as each further
--- word has. Types and parameters are never first. There is no text of octets that aren't such a field, of a name, which
--- isn't its octets alone, and of a kind without a form of its own: such data has the form of RFC 3597, 5.
+-- word has. There is no text of octets that aren't such a field, of a name, which isn't its octets alone, and of a kind
+-- without a form of its own: such data has the form of RFC 3597, 5.
 abbrev pub octets_text : Bool → FieldKind → List ℕ → Option (List ℕ)
 octets_text first kinds.Number8 os = led first (option_map decimal (number_of os))
 octets_text first kinds.Number16 os = led first (option_map decimal (number_of os))
@@ -197,15 +174,15 @@ octets_text first kinds.Ipv6 os = led first (option_map ipv6_octets_text (exactl
 octets_text first kinds.Name os = None
 octets_text first kinds.CharString os = led first (option_map quoted (behind_count os))
 octets_text first kinds.OptionalString os = optional_text first os
-octets_text first kinds.CharStrings os = led first (strings_text os)
+octets_text first kinds.CharStrings os = led first (some_text strings_text (Some os))
 octets_text first kinds.Tag os = led first (tag_of (behind_count os))
 octets_text first kinds.QuotedText os = led first (option_map quoted (few os))
 octets_text first kinds.CountedBase16 os = led first (option_map counted_text (behind_count os))
-octets_text first kinds.CountedBase32 os = led first (some_base32 (behind_count os))
+octets_text first kinds.CountedBase32 os = led first (some_text base32_text (behind_count os))
 octets_text first kinds.CountedBase64 os = None
-octets_text first kinds.TypeBitmaps os = types_text (blocks_of os)
-octets_text first kinds.OptionalTypeBitmaps os = optional_types (blocks_of os)
-octets_text first kinds.SvcParams os = params_text (params_of os)
-octets_text first kinds.Base16 os = led first (option_map base16_text (some_few os))
-octets_text first kinds.Base64 os = led first (option_map (encode_of standard) (some_few os))
+octets_text first kinds.TypeBitmaps os = led first (some_text types_text (types_of os))
+octets_text first kinds.OptionalTypeBitmaps os = any_text types_text first (types_of os)
+octets_text first kinds.SvcParams os = any_text params_text first (params_of os)
+octets_text first kinds.Base16 os = led first (some_text base16_text (few os))
+octets_text first kinds.Base64 os = led first (some_text (encode_of standard) (few os))
 octets_text first kinds.Octets os = None

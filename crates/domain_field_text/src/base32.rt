@@ -94,7 +94,7 @@ impl<'a> fmt::Display for Base32<'a> {
 
     fn fmt<W: fmt::Write>(&self, f: &mut fmt::Formatter<W>) -> fmt::Result {
         let mut rest = self.octets;
-        while let [a, b, c, d, e, after @ ..] = rest {
+        'group: while let [a, b, c, d, e, after @ ..] = rest {
             let (a, b, c, d, e) = (*a, *b, *c, *d, *e);
             write!(f, "{}", Group { a, b, c, d, e })?;
             rest = after;

@@ -1,5 +1,5 @@
 //! A field of record data that is no name, as text (RFC 1035, 5.1).
-ghost use Rattle.std.specs.Prelude.{◌≡◌, ◌≤◌, ◌<◌, length, IfSome, option_map};
+ghost use Rattle.std.specs.Prelude.{◌≡◌, ◌≤◌, ◌<◌, length, Some, IfSome, option_map};
 ghost use Rattle.std.specs.Fmt.{decimal};
 ghost use Rattle.std.specs.Net.Text.{ipv4_text};
 ghost use Rattle.base64.specs.Engines.{standard};
@@ -7,10 +7,14 @@ ghost use Rattle.base64.specs.GeneralPurpose.{encode_of};
 ghost use Rattle.domain_header.specs.Rtypes.{rtype_text};
 ghost use Rattle.domain_strings.specs.Base16.{base16_text};
 ghost use Rattle.domain_strings.specs.Quoted.{quoted};
-ghost use Rattle.domain_dnssec.specs.BitmapViews.{bitmaps_blocks};
+ghost use Rattle.domain_dnssec.specs.BitmapViews.{bitmaps_types};
 ghost use Rattle.domain_dnssec.specs.Times.{time_text};
-ghost use Rattle.domain_field_text.specs.FieldTexts.{led, number_of, rtype_of, exactly, few, some_few, behind_count, ipv6_octets_text, octets_text};
-ghost use Rattle.domain_field_text.specs.FieldTexts.{optional_text, strings_text, tag_of, counted_text, some_base32, blocks_of, types_text, optional_types, params_of, params_text};
+ghost use Rattle.domain_dnssec.specs.TypesText.{types_text};
+ghost use Rattle.domain_svcb.specs.ParamText.{params_text};
+ghost use Rattle.domain_svcb.specs.ParamsViews.{params_of as svc_params};
+ghost use Rattle.domain_field_text.specs.Base32.{base32_text};
+ghost use Rattle.domain_field_text.specs.FieldTexts.{led, number_of, rtype_of, exactly, few, behind_count, ipv6_octets_text, octets_text};
+ghost use Rattle.domain_field_text.specs.FieldTexts.{optional_text, some_text, any_text, strings_text, tag_of, counted_text, types_of, params_of};
 ghost use Rattle.domain_field_text.specs.Held.{HasText};
 
 use domain_descriptor::FieldKind;
@@ -186,7 +190,7 @@ fn optional_held(octets: &[u8]) -> Option<FieldText<'_>>
 
 /// Character strings, one or more.
 fn strings_held(octets: &[u8]) -> Option<FieldText<'_>>
-    ensures { HasText result (λ first. led first (strings_text octets.now)) }
+    ensures { HasText result (λ first. led first (some_text strings_text (Some octets.now))) }
 {
     if octets.is_empty() {
         return None;
@@ -224,10 +228,10 @@ fn counted_held(octets: &[u8]) -> Option<FieldText<'_>>
     }
 }
 
-/// Octets in base32hex.
+/// Octets in base32hex, one or more.
 fn base32_held(octets: &[u8]) -> Option<FieldText<'_>>
     ensures { HasText result
-        (λ first. led first (some_base32 (behind_count octets.now))) }
+        (λ first. led first (some_text base32_text (behind_count octets.now))) }
 {
     let Some(octets) = behind_count(octets) else {
         return None;
@@ -238,9 +242,9 @@ fn base32_held(octets: &[u8]) -> Option<FieldText<'_>>
     Some(FieldText::Base32(octets))
 }
 
-/// Octets in hexadecimal digits.
+/// Octets in hexadecimal digits, one or more.
 fn base16_held(octets: &[u8]) -> Option<FieldText<'_>>
-    ensures { HasText result (λ first. led first (option_map base16_text (some_few octets.now))) }
+    ensures { HasText result (λ first. led first (some_text base16_text (few octets.now))) }
 {
     if octets.is_empty() {
         return None;
@@ -251,10 +255,10 @@ fn base16_held(octets: &[u8]) -> Option<FieldText<'_>>
     }
 }
 
-/// Octets in base64.
+/// Octets in base64, one or more.
 fn base64_held(octets: &[u8]) -> Option<FieldText<'_>>
     ensures { HasText result
-        (λ first. led first (option_map (encode_of standard) (some_few octets.now))) }
+        (λ first. led first (some_text (encode_of standard) (few octets.now))) }
 {
     if octets.is_empty() {
         return None;
@@ -265,10 +269,11 @@ fn base64_held(octets: &[u8]) -> Option<FieldText<'_>>
     }
 }
 
-/// The bitmaps of types that octets are, one block or more.
+/// The bitmaps of types that octets are.
+#[tactic(auto, using(crate::proofs::Blocks::blocks_are, crate::proofs::Blocks::blocks_none))]
 fn bitmaps_of(octets: &[u8]) -> Option<TypeBitmaps<&[u8]>>
     requires { 0 < length octets.now }
-    ensures { option_map (λ it. bitmaps_blocks it) result ≡ blocks_of octets.now }
+    ensures { option_map (λ it. bitmaps_types it) result ≡ types_of octets.now }
 {
     match TypeBitmaps::from_octets(octets) {
         Ok(bitmaps) => Some(bitmaps),
@@ -278,7 +283,7 @@ fn bitmaps_of(octets: &[u8]) -> Option<TypeBitmaps<&[u8]>>
 
 /// Types, one or more.
 fn types_held(octets: &[u8]) -> Option<FieldText<'_>>
-    ensures { HasText result (λ _. types_text (blocks_of octets.now)) }
+    ensures { HasText result (λ first. led first (some_text types_text (types_of octets.now))) }
 {
     if octets.is_empty() {
         return None;
@@ -286,32 +291,49 @@ fn types_held(octets: &[u8]) -> Option<FieldText<'_>>
     let Some(bitmaps) = bitmaps_of(octets) else {
         return None;
     };
-    if bitmaps.iter().next().is_none() {
-        return None;
-    }
-    Some(FieldText::Types(bitmaps))
-}
-
-/// Types, or none.
-fn optional_types_held(octets: &[u8]) -> Option<FieldText<'_>>
-    ensures { HasText result (λ _. optional_types (blocks_of octets.now)) }
-{
-    if octets.is_empty() {
-        return Some(FieldText::Absent);
-    }
-    match bitmaps_of(octets) {
-        Some(bitmaps) => Some(FieldText::Types(bitmaps)),
+    match bitmaps.iter().next() {
+        Some(_) => Some(FieldText::Types(bitmaps)),
         None => None,
     }
 }
 
-/// Service parameters.
-fn params_held(octets: &[u8]) -> Option<FieldText<'_>>
-    ensures { HasText result (λ _. params_text (params_of octets.now)) }
+/// Types, or none.
+fn optional_types_held(octets: &[u8]) -> Option<FieldText<'_>>
+    ensures { HasText result (λ first. any_text types_text first (types_of octets.now)) }
+{
+    if octets.is_empty() {
+        return Some(FieldText::Absent);
+    }
+    let Some(bitmaps) = bitmaps_of(octets) else {
+        return None;
+    };
+    match bitmaps.iter().next() {
+        Some(_) => Some(FieldText::Types(bitmaps)),
+        None => Some(FieldText::Absent),
+    }
+}
+
+/// The service parameters that octets are.
+#[tactic(auto, using(crate::proofs::Params::params_are, crate::proofs::Params::params_none))]
+fn svc_params_of(octets: &[u8]) -> Option<SvcParams<&[u8]>>
+    ensures { option_map (λ it. svc_params it) result ≡ params_of octets.now }
 {
     match SvcParams::from_octets(octets) {
-        Ok(params) => Some(FieldText::Params(params)),
+        Ok(params) => Some(params),
         Err(_) => None,
+    }
+}
+
+/// Service parameters, or none.
+fn params_held(octets: &[u8]) -> Option<FieldText<'_>>
+    ensures { HasText result (λ first. any_text params_text first (params_of octets.now)) }
+{
+    let Some(params) = svc_params_of(octets) else {
+        return None;
+    };
+    match params.iter().next() {
+        Some(_) => Some(FieldText::Params(params)),
+        None => Some(FieldText::Absent),
     }
 }
 

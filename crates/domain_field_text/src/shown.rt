@@ -1,15 +1,11 @@
 //! Writes the text of a field.
 ghost use Rattle.std.specs.Prelude.{Some};
-ghost use Rattle.domain_dnssec.specs.BitmapViews.{bitmaps_types};
-ghost use Rattle.domain_svcb.specs.ParamsViews.{params_of};
-ghost use Rattle.domain_field_text.specs.FieldTexts.{lead, spaced_types, spaced_params};
+ghost use Rattle.domain_field_text.specs.FieldTexts.{lead};
 ghost use Rattle.domain_field_text.specs.Held.{held_text};
 
 use crate::base32::Base32;
 use crate::field::FieldText;
 use crate::strings::Strings;
-use domain_dnssec::{RtypeField, TypeBitmaps};
-use domain_svcb::SvcParams;
 use std::fmt;
 
 /// The space before a word that isn't the first of data.
@@ -56,44 +52,8 @@ impl<'a> fmt::Display for Shown<'a> {
             FieldText::Base16(octets) => write!(f, "{lead}{octets}"),
             FieldText::Base32(octets) => write!(f, "{lead}{}", Base32 { octets }),
             FieldText::Base64(octets) => write!(f, "{lead}{octets}"),
-            FieldText::Types(bitmaps) => write!(f, "{}", SpacedTypes { bitmaps: *bitmaps }),
-            FieldText::Params(params) => write!(f, "{}", SpacedParams { params: *params }),
+            FieldText::Types(bitmaps) => write!(f, "{lead}{bitmaps}"),
+            FieldText::Params(params) => write!(f, "{lead}{params}"),
         }
-    }
-}
-
-/// Types, each behind a space.
-#[derive(Clone, Copy)]
-struct SpacedTypes<'a> {
-    bitmaps: TypeBitmaps<&'a [u8]>,
-}
-
-impl<'a> fmt::Display for SpacedTypes<'a> {
-    ghost output = { λ it. Some (spaced_types (bitmaps_types it.bitmaps)) };
-
-    fn fmt<W: fmt::Write>(&self, f: &mut fmt::Formatter<W>) -> fmt::Result {
-        let mut types = self.bitmaps.iter();
-        while let Some(rtype) = types.next() {
-            write!(f, " {}", RtypeField { rtype })?;
-        }
-        Ok(())
-    }
-}
-
-/// Service parameters, each behind a space.
-#[derive(Clone, Copy)]
-struct SpacedParams<'a> {
-    params: SvcParams<&'a [u8]>,
-}
-
-impl<'a> fmt::Display for SpacedParams<'a> {
-    ghost output = { λ it. Some (spaced_params (params_of it.params)) };
-
-    fn fmt<W: fmt::Write>(&self, f: &mut fmt::Formatter<W>) -> fmt::Result {
-        let mut params = self.params.iter();
-        while let Some(param) = params.next() {
-            write!(f, " {param}")?;
-        }
-        Ok(())
     }
 }

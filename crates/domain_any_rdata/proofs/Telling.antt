@@ -1,0 +1,103 @@
+-- The text of data, field by field.
+use Rattle.std.proofs.Common.{◌≡◌, ◌∙◌, ℕ, Bool, true, false, List, [], ◌∷◌, ◌++◌, Option, None, Some, refl, sym, ap, subst, append_assoc, append-nil}
+use Rattle.std.specs.Prelude.{is_some}
+use Rattle.std.proofs.lemmas.Bool.{false≢true}
+use Rattle.std.proofs.lemmas.Grind.{put_two}
+use Rattle.std.specs.Fmt.{HasWritten}
+use Rattle.std.specs.declared.fmt.Formatter.{Formatter}
+use Rattle.domain_descriptor.specs.declared.kind.FieldKind.{FieldKind}
+use Rattle.domain_fields.specs.Parts.{Part}
+use Rattle.domain_list.specs.Moving.{HasMoved}
+use Rattle.domain_rdata.specs.AnyData.{unknown_text}
+use Rattle.domain_any_rdata.specs.Texts.{part_text, both_texts, text_or_nothing, parts_text, text_or_octets}
+
+-- the fields that are left, where one was taken
+one_taken : (b : Bool) (ks rest : List FieldKind) (k : FieldKind) (xs others : List Part) (x : Part) → ks ≡ k ∷ rest → xs ≡ x ∷ others
+    → parts_text b ks xs ≡ both_texts (part_text b k x) (parts_text false rest others)
+one_taken b ks rest k xs others x kinds parts = ap (λ y. parts_text b y xs) kinds ∙ ap (λ y. parts_text b (k ∷ rest) y) parts
+
+none_taken : (b : Bool) (ks : List FieldKind) (xs : List Part) → ks ≡ [] → parts_text b ks xs ≡ Some []
+none_taken b ks xs none = ap (λ y. parts_text b y xs) none
+
+-- ---- whether each field has a text
+has_both : (a b : Option (List ℕ)) → is_some a ≡ true → is_some (both_texts a b) ≡ is_some b
+has_both None b told = absurd (false≢true told)
+has_both (Some s) None told = refl
+has_both (Some s) (Some t) told = refl
+
+lacks_first : (a b : Option (List ℕ)) → is_some a ≡ false → is_some (both_texts a b) ≡ false
+lacks_first None b told = refl
+lacks_first (Some s) b told = absurd (false≢true (sym told))
+
+-- Those that are left, of which the next one is the first of data or isn't, decide.
+pub Decides : Option (List ℕ) → List FieldKind → List Part → Type 0
+Decides all ks xs = (b : Bool) × (is_some all ≡ is_some (parts_text b ks xs))
+
+pub decides_more : (all : Option (List ℕ)) (ks rest : List FieldKind) (k : FieldKind) (xs others : List Part) (x : Part) → Decides all ks xs → ks ≡ k ∷ rest → xs ≡ x ∷ others
+    → ((b : Bool) → true ≡ is_some (part_text b k x)) → Decides all rest others
+decides_more all ks rest k xs others x (b, still) kinds parts told =
+    (false, still ∙ (ap is_some (one_taken b ks rest k xs others x kinds parts) ∙ has_both (part_text b k x) (parts_text false rest others) (sym (told b))))
+
+pub decides_not : (all : Option (List ℕ)) (ks rest : List FieldKind) (k : FieldKind) (xs others : List Part) (x : Part) → Decides all ks xs → ks ≡ k ∷ rest → xs ≡ x ∷ others
+    → ((b : Bool) → false ≡ is_some (part_text b k x)) → false ≡ is_some all
+decides_not all ks rest k xs others x (b, still) kinds parts told =
+    sym (still ∙ (ap is_some (one_taken b ks rest k xs others x kinds parts) ∙ lacks_first (part_text b k x) (parts_text false rest others) (sym (told b))))
+
+pub decides_all : (all : Option (List ℕ)) (ks : List FieldKind) (xs : List Part) → Decides all ks xs → ks ≡ [] → true ≡ is_some all
+decides_all all ks xs (b, still) none = sym (still ∙ ap is_some (none_taken b ks xs none))
+
+pub decides_first : (all ks : List FieldKind) (xs others : List Part) → ks ≡ all → others ≡ xs → Decides (parts_text true all xs) ks others
+decides_first all ks xs others kinds parts = (true, ap (λ y. is_some (parts_text true y xs)) (sym kinds) ∙ ap (λ y. is_some (parts_text true ks y)) (sym parts))
+
+-- ---- the text
+split : (a b : Option (List ℕ)) → is_some (both_texts a b) ≡ true → (text_or_nothing (both_texts a b) ≡ text_or_nothing a ++ text_or_nothing b) × (is_some b ≡ true)
+split None b told = absurd (false≢true told)
+split (Some s) None told = absurd (false≢true told)
+split (Some s) (Some t) told = (refl, refl)
+
+-- What was written of the texts of fields, where each has one, and what is left.
+pub record Told {W : Type 0} (took : W → List ℕ → W → Type 0) (f : Formatter W) (all : Option (List ℕ)) (b : Bool) (ks : List FieldKind) (xs : List Part) (g : Formatter W) : Type 0 where
+  pub whole : is_some (parts_text b ks xs) ≡ true
+  pub moved : HasMoved took f (text_or_nothing all) (text_or_nothing (parts_text b ks xs)) g
+
+pub told_more : {W : Type 0} (took : W → List ℕ → W → Type 0) (f g h : Formatter W) (all : Option (List ℕ)) (b : Bool) (ks rest : List FieldKind) (k : FieldKind) (xs others : List Part) (x : Part)
+    → Told took f all b ks xs g → ks ≡ k ∷ rest → xs ≡ x ∷ others → HasWritten took g (text_or_nothing (part_text b k x)) h → Told took f all false rest others h
+told_more took f g h all b ks rest k xs others x still kinds parts wrote =
+    let same = one_taken b ks rest k xs others x kinds parts in
+    let one = split (part_text b k x) (parts_text false rest others) (sym (ap is_some same) ∙ still.whole) in
+    let m = still.moved in
+    let done = m.done in
+    let piece = text_or_nothing (part_text b k x) in
+    record {
+      whole = one.1;
+      moved = record {
+        done = done ++ piece;
+        parts = m.parts ∙ (ap (λ t. done ++ text_or_nothing t) same ∙ (ap (λ t. done ++ t) one.0 ∙ sym (append_assoc done piece (text_or_nothing (parts_text false rest others)))));
+        wrote = put_two took f g h done piece (done ++ piece) m.wrote wrote refl;
+      };
+    }
+
+told_text : (all : Option (List ℕ)) (octets : List ℕ) → is_some all ≡ true → text_or_nothing all ≡ text_or_octets all octets
+told_text None octets told = absurd (false≢true told)
+told_text (Some t) octets told = refl
+
+pub told_all : {W : Type 0} (took : W → List ℕ → W → Type 0) (f g : Formatter W) (all : Option (List ℕ)) (b : Bool) (ks : List FieldKind) (xs : List Part) (octets : List ℕ)
+    → is_some all ≡ true → Told took f all b ks xs g → ks ≡ [] → HasWritten took f (text_or_octets all octets) g
+told_all took f g all b ks xs octets told still none =
+    let m = still.moved in
+    let all_done : m.done ≡ text_or_octets all octets = sym (m.parts ∙ (ap (λ t. m.done ++ text_or_nothing t) (none_taken b ks xs none) ∙ append-nil m.done)) ∙ told_text all octets told in
+    subst (λ t. HasWritten took f t g) all_done m.wrote
+
+pub told_first : {W : Type 0} (took : W → List ℕ → W → Type 0) (f : Formatter W) (all ks : List FieldKind) (xs others : List Part) → is_some (parts_text true all xs) ≡ true → ks ≡ all → others ≡ xs
+    → HasWritten took f [] f → Told took f (parts_text true all xs) true ks others f
+told_first took f all ks xs others told kinds parts nothing =
+    let same : parts_text true ks others ≡ parts_text true all xs = ap (λ y. parts_text true y others) kinds ∙ ap (λ y. parts_text true all y) parts in
+    record {
+      whole = ap is_some same ∙ told;
+      moved = record { done = []; parts = ap text_or_nothing (sym same); wrote = nothing };
+    }
+
+-- ---- data whose fields have no text
+pub untold : (all : Option (List ℕ)) (octets : List ℕ) → is_some all ≡ false → unknown_text octets ≡ text_or_octets all octets
+untold None octets told = refl
+untold (Some t) octets told = absurd (false≢true (sym told))
