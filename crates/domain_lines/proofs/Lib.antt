@@ -3,3 +3,4 @@ pub mod Showing
 pub mod Entries
 pub mod Laying
 pub mod Putting
+pub mod Recording
