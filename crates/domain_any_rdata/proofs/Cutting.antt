@@ -15,7 +15,7 @@ use Rattle.domain_fields.proofs.Ordering.{as_many_cmp}
 use Rattle.domain_fields.specs.Orders.{hashed}
 use Rattle.domain_fields.specs.Parts.{Part, part_octets, parts_octets}
 use Rattle.domain_any_rdata.specs.Parts.{parts_left}
-use Rattle.domain_any_rdata.specs.Readers.{octets_left, in_hand}
+use Rattle.domain_any_rdata.specs.Readers.{remaining_octets, in_hand}
 use Rattle.domain_any_rdata.specs.declared.reader.OctetReader.{OctetReader}
 
 -- ---- the octets in hand come first: the rest of a name, or those of another field
@@ -38,7 +38,7 @@ pub record BeginsWith (first all : List ℕ) : Type 0 where
   pub is : all ≡ first ++ rest
 
 by_test : (it : OctetReader) (c : Bool) → nat_lt it.taken (length it.name.items) ≡ c
-    → BeginsWith (if c then drop it.taken it.name.items else it.octets.now) (octets_left it)
+    → BeginsWith (if c then drop it.taken it.name.items else it.octets.now) (remaining_octets it)
 by_test it true few = record { rest = it.octets.now ++ parts_octets it.lowercase (parts_left it.fields); is = refl }
 by_test it false many =
     let gone : length it.name.items ≤ it.taken = grind (arith, nat_tests) in
@@ -47,7 +47,7 @@ by_test it false many =
       is = ap (λ (x : List ℕ). x ++ (it.octets.now ++ parts_octets it.lowercase (parts_left it.fields))) (drop_of_length-le it.name.items gone);
     }
 
-pub hand_first : (it : OctetReader) → BeginsWith (in_hand it) (octets_left it)
+pub hand_first : (it : OctetReader) → BeginsWith (in_hand it) (remaining_octets it)
 hand_first it = by_test it (nat_lt it.taken (length it.name.items)) refl
 
 -- ---- order
@@ -76,17 +76,17 @@ hands_cmp first second all others n one two few less =
 
 -- so the order of what is left is found
 pub hands_ordered : (first second : OctetReader) (n : ℕ) (order : Ordering) (rest others : List ℕ) → n ≤ length (in_hand first) → n ≤ length (in_hand second)
-    → order ≡ slice_cmp nat_cmp (take n (in_hand first)) (take n (in_hand second)) → rest ≡ drop n (octets_left first) → others ≡ drop n (octets_left second)
-    → slice_cmp nat_cmp (octets_left first) (octets_left second) ≡ ordering_then order (slice_cmp nat_cmp rest others)
+    → order ≡ slice_cmp nat_cmp (take n (in_hand first)) (take n (in_hand second)) → rest ≡ drop n (remaining_octets first) → others ≡ drop n (remaining_octets second)
+    → slice_cmp nat_cmp (remaining_octets first) (remaining_octets second) ≡ ordering_then order (slice_cmp nat_cmp rest others)
 hands_ordered first second n order rest others few less is one two =
-    hands_cmp (in_hand first) (in_hand second) (octets_left first) (octets_left second) n (hand_first first) (hand_first second) few less
-    ∙ ap (λ (o : Ordering). ordering_then o (slice_cmp nat_cmp (drop n (octets_left first)) (drop n (octets_left second)))) (sym is)
-    ∙ ap (λ (l : List ℕ). ordering_then order (slice_cmp nat_cmp l (drop n (octets_left second)))) (sym one)
+    hands_cmp (in_hand first) (in_hand second) (remaining_octets first) (remaining_octets second) n (hand_first first) (hand_first second) few less
+    ∙ ap (λ (o : Ordering). ordering_then o (slice_cmp nat_cmp (drop n (remaining_octets first)) (drop n (remaining_octets second)))) (sym is)
+    ∙ ap (λ (l : List ℕ). ordering_then order (slice_cmp nat_cmp l (drop n (remaining_octets second)))) (sym one)
     ∙ ap (λ (l : List ℕ). ordering_then order (slice_cmp nat_cmp rest l)) (sym two)
 
-pub fewer_left : (it : OctetReader) (n : ℕ) (rest : List ℕ) → 0 < n → n ≤ length (in_hand it) → rest ≡ drop n (octets_left it) → length rest < length (octets_left it)
+pub fewer_left : (it : OctetReader) (n : ℕ) (rest : List ℕ) → 0 < n → n ≤ length (in_hand it) → rest ≡ drop n (remaining_octets it) → length rest < length (remaining_octets it)
 fewer_left it n rest some few is =
-    omega (arith, ap (λ (l : List ℕ). length l) is, length-drop n (octets_left it), longer_first (in_hand it) (octets_left it) (hand_first it), some, few)
+    omega (arith, ap (λ (l : List ℕ). length l) is, length-drop n (remaining_octets it), longer_first (in_hand it) (remaining_octets it) (hand_first it), some, few)
 
 pub differ_first : (o r : Ordering) → (o ≡ Equal → ⊥) → ordering_then o r ≡ o
 differ_first Less r differs = refl
@@ -132,18 +132,18 @@ pub nothing_in_hand : (it : OctetReader) → in_hand it ≡ [] → (drop it.take
 nothing_in_hand it none = nothing_by it (nat_lt it.taken (length it.name.items)) refl none
 
 pub next_taken : (it : OctetReader) (x : Part) (rest : List Part) (name octets : List ℕ) → in_hand it ≡ [] → parts_left it.fields ≡ x ∷ rest → name ++ octets ≡ part_octets it.lowercase x
-    → name ++ (octets ++ parts_octets it.lowercase rest) ≡ octets_left it
+    → name ++ (octets ++ parts_octets it.lowercase rest) ≡ remaining_octets it
 next_taken it x rest name octets none first same =
     let e = nothing_in_hand it none in
     let left = parts_octets it.lowercase (parts_left it.fields) in
-    let whole : octets_left it ≡ left = ap (λ (d : List ℕ). d ++ (it.octets.now ++ left)) e.0 ∙ ap (λ (o : List ℕ). o ++ left) e.1 in
+    let whole : remaining_octets it ≡ left = ap (λ (d : List ℕ). d ++ (it.octets.now ++ left)) e.0 ∙ ap (λ (o : List ℕ). o ++ left) e.1 in
     sym (append_assoc name octets (parts_octets it.lowercase rest))
     ∙ ap (λ (o : List ℕ). o ++ parts_octets it.lowercase rest) same
     ∙ sym (whole ∙ ap (λ (l : List Part). parts_octets it.lowercase l) first)
 
 -- a name is taken
 pub name_taken : (it : OctetReader) (x : Part) (rest : List Part) (name before : List ℕ) → in_hand it ≡ [] → parts_left it.fields ≡ x ∷ rest → before ≡ [] → name ≡ before ++ part_octets it.lowercase x
-    → name ++ (it.octets.now ++ parts_octets it.lowercase rest) ≡ octets_left it
+    → name ++ (it.octets.now ++ parts_octets it.lowercase rest) ≡ remaining_octets it
 name_taken it x rest name before none first empty is =
     let e = nothing_in_hand it none in
     next_taken it x rest name it.octets.now none first
@@ -152,3 +152,7 @@ name_taken it x rest name before none first empty is =
 pub none_of : (xs : List ℕ) → length xs ≡ 0 → xs ≡ []
 none_of [] none = refl
 none_of (x ∷ xs) none = absurd (omega (arith, none))
+
+-- ---- the loops
+pub hashed_none : {H : Type 0} (write : H → List ℕ → H) (left : List ℕ) (state all : H) → left ≡ [] → hashed write left state ≡ all → state ≡ all
+hashed_none write left state all none same = ap (λ (x : List ℕ). hashed write x state) (sym none) ∙ same

@@ -9,7 +9,7 @@ use Rattle.domain_fields.specs.Parts.{Part, parts_octets}
 use Rattle.domain_rdata.specs.ReadBack.{Appended}
 use Rattle.domain_any_rdata.specs.AllData.{data_of, data_type, data_class, data_parts}
 use Rattle.domain_any_rdata.specs.Composing.{PartsComposed, parts_whole}
-use Rattle.domain_any_rdata.specs.Owned.{owned_type, owned_class, owned_octets, IsOwnedOf}
+use Rattle.domain_any_rdata.specs.Owned.{owned_type, owned_class, uncompressed_data, IsOwnedOf}
 use Rattle.domain_any_rdata.specs.declared.all.AllRecordData.{AllRecordData}
 use Rattle.domain_any_rdata.specs.declared.name_form.NameForm.TheVariants.{Whole}
 use Rattle.domain_any_rdata.specs.declared.owned.OwnedRecordData.{OwnedRecordData}
@@ -45,11 +45,11 @@ pub flat_octets : (xs : List Part) (compresses : Bool) (old new : List ℕ) → 
 flat_octets xs compresses old new none a =
     a.all ∙ ap (λ (o : List ℕ). o ++ a.octets) none ∙ parts_whole xs false compresses old a.octets a.allowed
 
-pub is_owned : (it : AllRecordData) (made : OwnedRecordData) → owned_type made ≡ data_type it → owned_class made ≡ data_class it → owned_octets made ≡ parts_octets false (data_parts it)
+pub is_owned : (it : AllRecordData) (made : OwnedRecordData) → owned_type made ≡ data_type it → owned_class made ≡ data_class it → uncompressed_data made ≡ parts_octets false (data_parts it)
     → IsOwnedOf it made
 is_owned it made typed classed flat = record {
   rtype = typed;
   class = classed;
   octets = flat;
-  parts = owned_same (data_of it) (owned_type made) (owned_class made) (owned_octets made) typed classed it.known it.certain flat;
+  parts = owned_same (data_of it) (owned_type made) (owned_class made) (uncompressed_data made) typed classed it.known it.certain flat;
 }

@@ -48,7 +48,7 @@ is_known_data it = are_fields_known (data_type it) (data_class it)
 abbrev pub lowered_octets : ℕ → ℕ → List Part → Option (List ℕ)
 lowered_octets rtype class parts = if are_fields_known rtype class then Some (parts_octets true parts) else None
 
--- those of this data
+-- the octets of this data with all names in lowercase, if it is known which octets are names
 abbrev pub known_form : AllRecordData → Option (List ℕ)
 known_form it = lowered_octets (data_type it) (data_class it) (data_parts it)
 

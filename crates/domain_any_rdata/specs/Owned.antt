@@ -19,25 +19,25 @@ abbrev pub owned_class : OwnedRecordData → ℕ
 owned_class it = class_number it.class
 
 -- the octets, in which no name is compressed
-abbrev pub owned_octets : OwnedRecordData → List ℕ
-owned_octets it = it.octets.items
+abbrev pub uncompressed_data : OwnedRecordData → List ℕ
+uncompressed_data it = it.octets.items
 
 -- its fields as parts, in their order
 abbrev pub owned_parts : OwnedRecordData → List Part
-owned_parts it = parts_at (known_fields (owned_type it) (owned_class it)) (owned_octets it) 0
+owned_parts it = parts_at (known_fields (owned_type it) (owned_class it)) (uncompressed_data it) 0
 
 -- It has the type and the class of the data, its octets with no name compressed, and the same fields: names keep their
 -- case.
 pub record IsOwnedOf (it : AllRecordData) (made : OwnedRecordData) : Type 0 where
   pub rtype : owned_type made ≡ data_type it
   pub class : owned_class made ≡ data_class it
-  pub octets : owned_octets made ≡ parts_octets false (data_parts it)
+  pub octets : uncompressed_data made ≡ parts_octets false (data_parts it)
   pub parts : owned_parts made ≡ data_parts it
 
--- the octets with all names in lowercase, if it is known which octets are names
+-- the octets of this data with all names in lowercase, if it is known which octets are names
 abbrev pub owned_form : OwnedRecordData → Option (List ℕ)
 owned_form it = lowered_octets (owned_type it) (owned_class it) (owned_parts it)
 
--- what it is compared by
+-- what this data is compared by
 abbrev pub owned_key : OwnedRecordData → List ℕ
 owned_key it = canonical_key (owned_type it) (owned_class it) (owned_parts it)

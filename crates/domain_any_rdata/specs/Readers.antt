@@ -9,5 +9,5 @@ abbrev pub in_hand : OctetReader → List ℕ
 in_hand it = if nat_lt it.taken (length it.name.items) then drop it.taken it.name.items else it.octets.now
 
 -- All remaining octets. A name is read into the buffer only when no other octets are in hand, so its rest comes first.
-abbrev pub octets_left : OctetReader → List ℕ
-octets_left it = drop it.taken it.name.items ++ (it.octets.now ++ parts_octets it.lowercase (parts_left it.fields))
+abbrev pub remaining_octets : OctetReader → List ℕ
+remaining_octets it = drop it.taken it.name.items ++ (it.octets.now ++ parts_octets it.lowercase (parts_left it.fields))

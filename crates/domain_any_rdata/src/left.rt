@@ -3,7 +3,7 @@ ghost use Rattle.std.specs.Prelude.{◌≡◌, ◌<◌, length};
 ghost use Rattle.std.specs.Cmp.Lexicographic.{slice_cmp};
 ghost use Rattle.std.specs.Ordering.{nat_cmp, ordering_then};
 ghost use Rattle.domain_fields.specs.Orders.{hashed};
-ghost use Rattle.domain_any_rdata.specs.Readers.{octets_left, in_hand};
+ghost use Rattle.domain_any_rdata.specs.Readers.{remaining_octets, in_hand};
 
 use crate::reader::OctetReader;
 use domain_fields::hash_octets;
@@ -14,10 +14,10 @@ use std::hash::Hasher;
 fn order_hands(first: &mut OctetReader<'_>, second: &mut OctetReader<'_>) -> Ordering
     requires first_some { 0 < length (in_hand first.old) }
     requires second_some { 0 < length (in_hand second.old) }
-    ensures order { slice_cmp nat_cmp (octets_left first.old) (octets_left second.old)
+    ensures order { slice_cmp nat_cmp (remaining_octets first.old) (remaining_octets second.old)
         ≡ ordering_then result
-        (slice_cmp nat_cmp (octets_left first.new) (octets_left second.new)) }
-    ensures fewer { length (octets_left first.new) < length (octets_left first.old) }
+        (slice_cmp nat_cmp (remaining_octets first.new) (remaining_octets second.new)) }
+    ensures fewer { length (remaining_octets first.new) < length (remaining_octets first.old) }
 {
     let n = first.first().len().min(second.first().len());
     let order = first.first()[..n].cmp(&second.first()[..n]);
@@ -29,7 +29,7 @@ fn order_hands(first: &mut OctetReader<'_>, second: &mut OctetReader<'_>) -> Ord
 /// Returns the order of the remaining octets of two readers: as unsigned numbers from the left, where a missing octet
 /// comes before any (RFC 4034, 6.3).
 pub(crate) fn order_octets(first: OctetReader<'_>, second: OctetReader<'_>) -> Ordering
-    ensures { result ≡ slice_cmp nat_cmp (octets_left first.entry) (octets_left second.entry) }
+    ensures { result ≡ slice_cmp nat_cmp (remaining_octets first.entry) (remaining_octets second.entry) }
 {
     let mut first = first;
     let mut second = second;
@@ -50,7 +50,7 @@ pub(crate) fn order_octets(first: OctetReader<'_>, second: OctetReader<'_>) -> O
 
 /// Writes the remaining octets to the hasher, each as one `u8`.
 pub(crate) fn hash_left<H: Hasher>(left: OctetReader<'_>, state: &mut H)
-    ensures { state.new ≡ hashed H.write (octets_left left.entry) state.old }
+    ensures { state.new ≡ hashed H.write (remaining_octets left.entry) state.old }
 {
     let mut left = left;
     'octets: while left.fill() {

@@ -15,6 +15,7 @@ mod reader;
 
 pub use all::AllRecordData;
 pub use name_form::NameForm;
+pub use order::equality_law;
 pub use owned::OwnedRecordData;
 
 #[cfg(test)]

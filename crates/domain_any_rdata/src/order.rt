@@ -19,11 +19,11 @@ use std::hash::{Hash, Hasher};
 impl<'m> AllRecordData<'m> {
     ghost use Rattle.domain_any_rdata.specs.AllData.{data_type, data_class, data_parts};
     ghost use Rattle.domain_any_rdata.specs.Keys.{canonical_octets};
-    ghost use Rattle.domain_any_rdata.specs.Readers.{octets_left};
+    ghost use Rattle.domain_any_rdata.specs.Readers.{remaining_octets};
 
     /// Returns a reader of the octets of the canonical form.
     fn canonical(&self) -> OctetReader<'m>
-        ensures { octets_left result
+        ensures { remaining_octets result
             ≡ canonical_octets (data_type self.now) (data_class self.now) (data_parts self.now) }
     {
         OctetReader::new(&self.rdata(), self.lowers_names())

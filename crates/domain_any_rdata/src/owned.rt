@@ -27,7 +27,7 @@ pub struct OwnedRecordData {
 
 impl OwnedRecordData {
     ghost use Rattle.domain_any_rdata.specs.AllData.{IsAllData, data_parts};
-    ghost use Rattle.domain_any_rdata.specs.Owned.{owned_type, owned_class, owned_octets, IsOwnedOf};
+    ghost use Rattle.domain_any_rdata.specs.Owned.{owned_type, owned_class, uncompressed_data, IsOwnedOf};
 
     /// Returns the same data over these octets: those of its fields, with no name compressed.
     fn of_flat(data: &AllRecordData<'_>, octets: Vec<u8>) -> OwnedRecordData
@@ -50,14 +50,14 @@ impl OwnedRecordData {
 
     /// Returns the octets.
     pub fn as_slice(&self) -> &[u8]
-        ensures { result.now ≡ owned_octets self.now }
+        ensures { result.now ≡ uncompressed_data self.now }
     {
         self.octets.as_slice()
     }
 
     /// Returns the same data as `AllRecordData`, which borrows the octets. It reads the fields, and can't fail.
     pub fn as_data(&self) -> AllRecordData<'_>
-        ensures { IsAllData (owned_type self.now) (owned_class self.now) (owned_octets self.now) 0
+        ensures { IsAllData (owned_type self.now) (owned_class self.now) (uncompressed_data self.now) 0
             result }
     {
         match AllRecordData::parse(self.rtype, self.class, self.octets.as_slice(), 0) {

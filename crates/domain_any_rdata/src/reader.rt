@@ -23,11 +23,11 @@ pub(crate) struct OctetReader<'m> {
 }
 
 impl<'m> OctetReader<'m> {
-    ghost use Rattle.domain_any_rdata.specs.Readers.{octets_left, in_hand};
+    ghost use Rattle.domain_any_rdata.specs.Readers.{remaining_octets, in_hand};
 
     /// Returns a reader of all octets of the data.
     pub(crate) fn new(rdata: &Rdata<'m>, lowercase: bool) -> OctetReader<'m>
-        ensures { octets_left result ≡ parts_octets lowercase (rdata_parts rdata.now) }
+        ensures { remaining_octets result ≡ parts_octets lowercase (rdata_parts rdata.now) }
     {
         OctetReader {
             fields: rdata.fields(),
@@ -51,7 +51,7 @@ impl<'m> OctetReader<'m> {
     /// Skips the first `n` octets in hand.
     pub(crate) fn skip(&mut self, n: usize)
         requires { n ≤ length (in_hand self.old) }
-        ensures { octets_left self.new ≡ drop n (octets_left self.old) }
+        ensures { remaining_octets self.new ≡ drop n (remaining_octets self.old) }
     {
         if self.taken < self.name.len() {
             self.taken += n;
@@ -62,9 +62,9 @@ impl<'m> OctetReader<'m> {
 
     /// Reads fields until octets are in hand. Returns `false` exactly if no octet remains.
     pub(crate) fn fill(&mut self) -> bool
-        ensures same { octets_left self.new ≡ octets_left self.old }
+        ensures same { remaining_octets self.new ≡ remaining_octets self.old }
         ensures some { IsTrue result → 0 < length (in_hand self.new) }
-        ensures none { IsFalse result → octets_left self.new ≡ [] }
+        ensures none { IsFalse result → remaining_octets self.new ≡ [] }
     {
         'field: while self.first().is_empty() {
             let Some(field) = self.fields.next() else {

@@ -1,14 +1,20 @@
-use Rattle.std.proofs.Common.{List, ℕ, sym, subst, arith}
+use Rattle.std.proofs.Common.{List, ℕ, subst}
+use Rattle.domain_descriptor.specs.Fields.{AreNoData}
 use Rattle.domain_descriptor.specs.Table.{known_fields}
-use Rattle.domain_any_rdata.specs.Parts.{AreNamed, CantBeOthers, parts_at}
+use Rattle.domain_header.specs.Values.{class_number}
+use Rattle.domain_rdata.specs.Rtypes.{rtype_number}
+use Rattle.domain_any_rdata.specs.AllData.{IsAllData}
+use Rattle.domain_any_rdata.proofs.Named.{no_fault}
 use Rattle.domain_any_rdata.proofs.owned.OwnedRecordData.as_data.Goals as goal
 
-pub of_whole-requires : goal.of_whole-requires
-of_whole-requires c =
+pub unreachable-requires : goal.unreachable-requires
+unreachable-requires c =
     let it = c.args.self.now in
-    let kinds = known_fields it.rtype it.class in
-    record {
-      inside = omega arith;
-      certain = subst (λ (m : List ℕ). CantBeOthers kinds m 0) (sym c.as_slice.ensures.value) it.certain;
-      named = subst (λ (m : List ℕ). AreNamed (parts_at kinds m 0)) (sym c.as_slice.ensures.value) it.named;
-    }
+    let kinds = known_fields (rtype_number it.rtype) (class_number it.class) in
+    no_fault kinds it.octets.items 0 it.certain _
+    (subst (λ (m : List ℕ). AreNoData kinds m 0 _) c.as_slice.ensures.value c.in-Err.ensures.err)
+
+pub returns : goal.returns
+returns c =
+    let it = c.args.self.now in
+    subst (λ (m : List ℕ). IsAllData (rtype_number it.rtype) (class_number it.class) m 0 c.in-Ok.data) c.as_slice.ensures.value c.in-Ok.ensures.ok

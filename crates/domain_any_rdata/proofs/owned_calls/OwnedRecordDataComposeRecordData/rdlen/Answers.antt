@@ -3,7 +3,8 @@ use Rattle.domain_descriptor.specs.Table.{compresses_names}
 use Rattle.domain_fields.specs.Parts.{parts_octets}
 use Rattle.domain_rdata.specs.Targets.{AllHaveLength}
 use Rattle.domain_any_rdata.specs.Composing.{PartsComposed, composed_form}
-use Rattle.domain_any_rdata.proofs.Viewing.{Content, content_canonical, same_content}
+use Rattle.domain_any_rdata.specs.Keys.{canonical_octets}
+use Rattle.domain_any_rdata.proofs.Viewing.{Content, same_content}
 use Rattle.domain_any_rdata.proofs.owned_calls.OwnedRecordDataComposeRecordData.rdlen.Goals as goal
 
 pub returns-clause-known : goal.returns-clause-known
@@ -19,4 +20,4 @@ returns-clause-composed c =
 pub returns-clause-canonical : goal.returns-clause-canonical
 returns-clause-canonical c =
     let same = same_content c.args.self.now c.as_data.result c.as_data.ensures in
-    subst (λ (x : Content). c.args.compress ≡ false → IfSome c.rdlen.result (λ (n : ℕ). length (content_canonical x) ≡ n)) same c.rdlen.ensures.canonical
+    subst (λ (x : Content). c.args.compress ≡ false → IfSome c.rdlen.result (λ (n : ℕ). length (canonical_octets x.0 x.1 x.2) ≡ n)) same c.rdlen.ensures.canonical
