@@ -5,6 +5,7 @@ use Rattle.std.specs.Coded.{×_prop, Unit-prop}
 use Rattle.domain_label.specs.Wire.{IsAbsoluteName}
 use Rattle.domain_label.proofs.WireLaws.{IsAbsoluteName_prop}
 use Rattle.domain_reading.specs.Labels.{labels_at}
+use Rattle.domain_descriptor.specs.Fields.{AreData}
 use Rattle.domain_descriptor.specs.Forms.{form}
 use Rattle.domain_descriptor.specs.Rdatas.{rdata_kinds, rdata_message, rdata_begin, field_kind, field_message, field_begin, field_after, kinds_left, fields_message, fields_offset}
 use Rattle.domain_any_rdata.specs.Stops.{field_stop}
@@ -69,3 +70,10 @@ IsNamed_prop (no_name octets) = Unit-prop
 pub AreNamed_prop : (xs : List Part) → IsProp (AreNamed xs)
 AreNamed_prop [] = Unit-prop
 AreNamed_prop (x ∷ xs) = ×_prop (IsNamed_prop x) (AreNamed_prop xs)
+
+-- The octets of m from p on are data with fields of these kinds: it is impossible that they aren't.
+abbrev pub CantBeOthers : List FieldKind → List ℕ → ℕ → Type 0
+CantBeOthers kinds m p = (AreData kinds m p → ⊥) → ⊥
+
+abbrev pub IsDataOf : Rdata → Type 0
+IsDataOf it = CantBeOthers (rdata_kinds it) (rdata_message it) (rdata_begin it)
