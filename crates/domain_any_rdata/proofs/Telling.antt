@@ -13,8 +13,8 @@ use Rattle.domain_fields.specs.Parts.{Part}
 use Rattle.domain_list.specs.Moving.{HasMoved}
 use Rattle.domain_rdata.specs.AnyData.{unknown_text}
 use Rattle.domain_any_rdata.proofs.Named.{parts_of_data}
-use Rattle.domain_any_rdata.specs.Parts.{parts_at, rdata_octets, rdata_parts}
-use Rattle.domain_any_rdata.specs.Texts.{part_text, both_texts, text_or_nothing, parts_text, text_or_octets, fields_text, rdata_text, data_text}
+use Rattle.domain_any_rdata.specs.Parts.{parts_at, raw_octets, rdata_parts}
+use Rattle.domain_any_rdata.specs.Texts.{part_text, both_texts, text_or_nothing, parts_text, text_or_octets, fields_text, rdata_text, shown_data}
 
 -- the fields that are left, where one was taken
 one_taken : (b : Bool) (ks rest : List FieldKind) (k : FieldKind) (xs others : List Part) (x : Part) → ks ≡ k ∷ rest → xs ≡ x ∷ others
@@ -108,10 +108,10 @@ untold None octets told = refl
 untold (Some t) octets told = absurd (false≢true (sym told))
 
 -- ---- the text of data that was read is that of the octets
-pub told_data : (rtype class : ℕ) (m : List ℕ) (p : ℕ) (it : Rdata) → IsRdata rtype class m p it → rdata_text it ≡ data_text rtype class m p
+pub told_data : (rtype class : ℕ) (m : List ℕ) (p : ℕ) (it : Rdata) → IsRdata rtype class m p it → rdata_text it ≡ shown_data rtype class m p
 told_data rtype class m p it is =
     let ks = known_fields rtype class in
-    ap (λ y. fields_text y (rdata_parts it) (rdata_octets it)) is.kinds
-    ∙ (ap (λ y. fields_text ks y (rdata_octets it)) (parts_of_data rtype class m p it is)
+    ap (λ y. fields_text y (rdata_parts it) (raw_octets it)) is.kinds
+    ∙ (ap (λ y. fields_text ks y (raw_octets it)) (parts_of_data rtype class m p it is)
     ∙ (ap (λ y. fields_text ks (parts_at ks m p) (drop (rdata_begin it) y)) is.octets
     ∙ ap (λ y. fields_text ks (parts_at ks m p) (drop y m)) is.begins))

@@ -41,16 +41,18 @@ parts_at [] m p = []
 parts_at (kind ∷ kinds) m p = field_part kind m p (field_stop kind m p) ∷ parts_at kinds m (field_stop kind m p)
 
 -- the octets of record data as they are in the message
-abbrev pub rdata_octets : Rdata → List ℕ
-rdata_octets it = drop (rdata_begin it) (rdata_message it)
+abbrev pub raw_octets : Rdata → List ℕ
+raw_octets it = drop (rdata_begin it) (rdata_message it)
 
--- the parts of record data, of one field, and of the remaining fields
+-- the parts of record data
 abbrev pub rdata_parts : Rdata → List Part
 rdata_parts it = parts_at (rdata_kinds it) (rdata_message it) (rdata_begin it)
 
+-- the part that a field is
 abbrev pub part_of : Field → Part
 part_of it = field_part (field_kind it) (field_message it) (field_begin it) (field_after it)
 
+-- the parts of the fields that are left
 abbrev pub parts_left : FieldIter → List Part
 parts_left it = parts_at (kinds_left it) (fields_message it) (fields_offset it)
 

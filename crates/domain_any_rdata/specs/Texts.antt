@@ -7,15 +7,15 @@ use Rattle.domain_descriptor.specs.declared.kind.FieldKind.{FieldKind}
 use Rattle.domain_descriptor.specs.declared.rdata.Rdata.{Rdata}
 use Rattle.domain_fields.specs.Parts.{Part, a_name, no_name}
 use Rattle.domain_rdata.specs.AnyData.{unknown_text}
-use Rattle.domain_field_text.specs.FieldTexts.{lead, octets_text}
+use Rattle.domain_field_text.specs.FieldTexts.{lead, field_octets_text}
 use Rattle.domain_field_text.specs.Names.{zone_name}
-use Rattle.domain_any_rdata.specs.Parts.{parts_at, rdata_octets, rdata_parts}
+use Rattle.domain_any_rdata.specs.Parts.{parts_at, raw_octets, rdata_parts}
 
 -- the text of a field: a name as a zone has it, or what its octets are; its first word is the first of data, or has a
 -- space before it
 abbrev pub part_text : Bool → FieldKind → Part → Option (List ℕ)
 part_text first kind (a_name ls) = Some (lead first ++ zone_name ls)
-part_text first kind (no_name octets) = octets_text first kind octets
+part_text first kind (no_name octets) = field_octets_text first kind octets
 
 -- a text before another, if there are both
 abbrev pub both_texts : Option (List ℕ) → Option (List ℕ) → Option (List ℕ)
@@ -45,8 +45,8 @@ fields_text kinds parts octets = text_or_octets (parts_text true kinds parts) oc
 
 -- the text of data that was read
 abbrev pub rdata_text : Rdata → List ℕ
-rdata_text it = fields_text (rdata_kinds it) (rdata_parts it) (rdata_octets it)
+rdata_text it = fields_text (rdata_kinds it) (rdata_parts it) (raw_octets it)
 
 -- the text of the data of a type in a class from p to the end of m
-abbrev pub data_text : ℕ → ℕ → List ℕ → ℕ → List ℕ
-data_text rtype class m p = fields_text (known_fields rtype class) (parts_at (known_fields rtype class) m p) (drop p m)
+abbrev pub shown_data : ℕ → ℕ → List ℕ → ℕ → List ℕ
+shown_data rtype class m p = fields_text (known_fields rtype class) (parts_at (known_fields rtype class) m p) (drop p m)

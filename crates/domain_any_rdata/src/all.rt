@@ -7,7 +7,7 @@ ghost use Rattle.domain_header.specs.Values.{class_number};
 ghost use Rattle.domain_rdata.specs.Rtypes.{rtype_number};
 ghost use Rattle.domain_fields.specs.Parts.{parts_octets};
 ghost use Rattle.domain_any_rdata.specs.Composing.{PartsComposed, parts_written, parts_write, composed_form, type_plain, type_flat};
-ghost use Rattle.domain_any_rdata.specs.Parts.{AreNamed, AreNamed_prop, IsDataOf, rdata_octets, rdata_parts};
+ghost use Rattle.domain_any_rdata.specs.Parts.{AreNamed, AreNamed_prop, IsDataOf, raw_octets, rdata_parts};
 
 use crate::compose::compose_fields;
 use crate::len::uncompressed_len;
@@ -23,7 +23,7 @@ use domain_rdata::{CanonicalRecordData, ComposeRecordData, Composer, RecordData,
 pub struct AllRecordData<'m> {
     rdata: Rdata<'m>,
     octets: &'m [u8],
-    ghost whole: { octets.now ≡ rdata_octets rdata },
+    ghost whole: { octets.now ≡ raw_octets rdata },
     ghost known: { rdata_kinds rdata ≡ known_fields (rdata_type rdata) (rdata_class rdata) },
     ghost certain: { IsDataOf rdata },
     ghost named: { AreNamed (rdata_parts rdata) } by { AreNamed_prop (rdata_parts rdata) },
@@ -69,7 +69,7 @@ impl<'m> AllRecordData<'m> {
 
     /// Returns the octets of the data as they are in the message: a name may end in a pointer.
     pub fn octets(&self) -> &'m [u8]
-        ensures { result.now ≡ rdata_octets (data_of self.now) }
+        ensures { result.now ≡ raw_octets (data_of self.now) }
     {
         self.octets
     }

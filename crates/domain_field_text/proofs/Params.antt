@@ -8,7 +8,7 @@ use Rattle.domain_svcb.specs.ParamsReading.{HasParamsFault}
 use Rattle.domain_svcb.specs.SvcParams.{params_octets, AreParams, EncodesParams, NoParams, param_fault, next_key}
 use Rattle.domain_svcb.specs.declared.params.SvcParamsError.{SvcParamsError}
 use Rattle.domain_svcb.specs.declared.params.SvcParamsError.TheVariants.{Long, ShortInput, KeyOrder}
-use Rattle.domain_field_text.specs.FieldTexts.{with_param, number_at, next_param, params_from, params_of}
+use Rattle.domain_field_text.specs.FieldTexts.{with_param, number_at, next_param, params_from, params_in}
 
 -- a parameter, and octets after it
 abbrev before : ℕ × List ℕ → List ℕ → List ℕ
@@ -44,18 +44,18 @@ params_fewer [] = omega arith
 params_fewer (p ∷ ps) = omega (arith, params_fewer ps, length-append p.1 (params_octets ps))
 
 -- octets that are parameters
-pub params_are : (o : List ℕ) (ps : List (ℕ × List ℕ)) → EncodesParams o ps → length o ≤ 65535 → params_of o ≡ Some ps
+pub params_are : (o : List ℕ) (ps : List (ℕ × List ℕ)) → EncodesParams o ps → length o ≤ 65535 → params_in o ≡ Some ps
 params_are o ps encodes few =
     ap (λ b. if b then params_from (suc (length o)) 0 o else None) (le-leb (length o) 65535 few)
     ∙ (ap (params_from (suc (length o)) 0) encodes.0 ∙ params_found (suc (length o)) 0 ps encodes.1 (omega (arith, ap length encodes.0, params_fewer ps)))
 
 -- octets that aren't
-not_params : (o : List ℕ) (why : SvcParamsError) → length o ≤ 65535 → NoParams o why → params_of o ≡ None
+not_params : (o : List ℕ) (why : SvcParamsError) → length o ≤ 65535 → NoParams o why → params_in o ≡ None
 not_params o why few bad =
     ap (λ b. if b then params_from (suc (length o)) 0 o else None) (le-leb (length o) 65535 few)
     ∙ (ap (params_from (suc (length o)) 0) bad.parts ∙ params_stop (suc (length o)) 0 bad.before bad.rest why bad.are bad.none)
 
-pub params_none : (o : List ℕ) (why : SvcParamsError) → HasParamsFault o why → params_of o ≡ None
+pub params_none : (o : List ℕ) (why : SvcParamsError) → HasParamsFault o why → params_in o ≡ None
 params_none o (Long _) many = ap (λ b. if b then params_from (suc (length o)) 0 o else None) (lt-leb (length o) 65535 many)
 params_none o ShortInput bad = not_params o ShortInput bad.0 bad.1
 params_none o KeyOrder bad = not_params o KeyOrder bad.0 bad.1

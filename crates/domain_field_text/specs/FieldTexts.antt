@@ -4,8 +4,7 @@ use Rattle.std.specs.Prelude.{ℕ, zero, suc, ◌+◌, ◌*◌, ◌==◌, nat_le
 use Rattle.std.specs.Char.{is_ascii_alphanumeric}
 use Rattle.std.specs.Fmt.{decimal}
 use Rattle.std.specs.List.{list_all}
-use Rattle.std.specs.Net.Addr.{segments_of}
-use Rattle.std.specs.Net.Text.{ipv4_text, ipv6_text}
+use Rattle.std.specs.Net.Text.{ipv4_text}
 use Rattle.base64.specs.Engines.{standard}
 use Rattle.base64.specs.GeneralPurpose.{encode_of}
 use Rattle.domain_header.specs.Rtypes.{rtype_text}
@@ -18,10 +17,11 @@ use Rattle.domain_dnssec.specs.TypeBitmaps.{block_fault, blocks_types}
 use Rattle.domain_dnssec.specs.TypesText.{types_text}
 use Rattle.domain_dnssec.specs.declared.type_bitmaps.TypeBitmapsError.{TypeBitmapsError}
 use Rattle.domain_txt.specs.Strings.{strings_in}
+use Rattle.domain_svcb.specs.Lists.{ipv6_octets_text}
 use Rattle.domain_svcb.specs.ParamText.{params_text}
 use Rattle.domain_svcb.specs.SvcParams.{param_fault}
 use Rattle.domain_svcb.specs.declared.params.SvcParamsError.{SvcParamsError}
-use Rattle.domain_field_text.specs.Base32.{base32_text}
+use Rattle.domain_field_text.specs.Base32.{base32hex_text}
 
 -- what is before a word: nothing before the first of data, else a space
 abbrev pub lead : Bool → List ℕ
@@ -50,12 +50,8 @@ rtype_of (a ∷ b ∷ []) = Some (a * 256 + b)
 rtype_of (a ∷ b ∷ c ∷ os) = None
 
 -- octets, if they are so many
-abbrev pub exactly : ℕ → List ℕ → Option (List ℕ)
-exactly n os = if length os == n then Some os else None
-
--- the text of an IPv6 address of sixteen octets (RFC 5952)
-abbrev pub ipv6_octets_text : List ℕ → List ℕ
-ipv6_octets_text os = ipv6_text (segments_of os)
+abbrev pub of_size : ℕ → List ℕ → Option (List ℕ)
+of_size n os = if length os == n then Some os else None
 
 -- octets, if record data can have so many (RFC 1035, 3.2.1)
 abbrev pub few : List ℕ → Option (List ℕ)
@@ -64,7 +60,7 @@ few os = if nat_le (length os) 65535 then Some os else None
 -- the octets behind one that says how many they are (RFC 1035, 3.3)
 abbrev pub behind_count : List ℕ → Option (List ℕ)
 behind_count [] = None
-behind_count (n ∷ s) = exactly n s
+behind_count (n ∷ s) = of_size n s
 
 -- the octets of a tag: letters and digits, one or more (RFC 8659, 4.1)
 abbrev pub tag_of : Option (List ℕ) → Option (List ℕ)
@@ -94,9 +90,9 @@ abbrev pub strings_text : List ℕ → List ℕ
 strings_text os = quoted_strings (strings_in os)
 
 -- octets in hexadecimal digits, or a hyphen where there is none (RFC 5155, 3.3)
-abbrev pub counted_text : List ℕ → List ℕ
-counted_text [] = 45 ∷ []
-counted_text (c ∷ os) = base16_text (c ∷ os)
+abbrev pub salt_text : List ℕ → List ℕ
+salt_text [] = 45 ∷ []
+salt_text (c ∷ os) = base16_text (c ∷ os)
 
 -- ---- bitmaps of types
 
@@ -151,38 +147,38 @@ params_from (suc n) least [] = Some []
 params_from (suc n) least (c ∷ o) = next_param (params_from n) (c ∷ o) (param_fault least (c ∷ o))
 
 -- the parameters that octets are, of which record data can have so many
-abbrev pub params_of : List ℕ → Option (List (ℕ × List ℕ))
-params_of o = if nat_le (length o) 65535 then params_from (suc (length o)) 0 o else None
+abbrev pub params_in : List ℕ → Option (List (ℕ × List ℕ))
+params_in o = if nat_le (length o) 65535 then params_from (suc (length o)) 0 o else None
 
 -- ---- a field
 
 -- The text of a field with these octets. Its first word is the first of data, or has a space before it, as each further
 -- word has. There is no text of octets that aren't such a field, of a name, which isn't its octets alone, and of a kind
 -- without a form of its own: such data has the form of RFC 3597, 5.
-abbrev pub octets_text : Bool → FieldKind → List ℕ → Option (List ℕ)
-octets_text first kinds.Number8 os = led first (option_map decimal (number_of os))
-octets_text first kinds.Number16 os = led first (option_map decimal (number_of os))
-octets_text first kinds.Number32 os = led first (option_map decimal (number_of os))
-octets_text first kinds.Number48 os = None
-octets_text first kinds.Number64 os = None
-octets_text first kinds.Ttl os = led first (option_map decimal (number_of os))
-octets_text first kinds.Serial os = led first (option_map decimal (number_of os))
-octets_text first kinds.Time os = led first (option_map time_text (number_of os))
-octets_text first kinds.Rtype os = led first (option_map rtype_text (rtype_of os))
-octets_text first kinds.Ipv4 os = led first (option_map ipv4_text (exactly 4 os))
-octets_text first kinds.Ipv6 os = led first (option_map ipv6_octets_text (exactly 16 os))
-octets_text first kinds.Name os = None
-octets_text first kinds.CharString os = led first (option_map quoted (behind_count os))
-octets_text first kinds.OptionalString os = optional_text first os
-octets_text first kinds.CharStrings os = led first (some_text strings_text (Some os))
-octets_text first kinds.Tag os = led first (tag_of (behind_count os))
-octets_text first kinds.QuotedText os = led first (option_map quoted (few os))
-octets_text first kinds.CountedBase16 os = led first (option_map counted_text (behind_count os))
-octets_text first kinds.CountedBase32 os = led first (some_text base32_text (behind_count os))
-octets_text first kinds.CountedBase64 os = None
-octets_text first kinds.TypeBitmaps os = led first (some_text types_text (types_of os))
-octets_text first kinds.OptionalTypeBitmaps os = any_text types_text first (types_of os)
-octets_text first kinds.SvcParams os = any_text params_text first (params_of os)
-octets_text first kinds.Base16 os = led first (some_text base16_text (few os))
-octets_text first kinds.Base64 os = led first (some_text (encode_of standard) (few os))
-octets_text first kinds.Octets os = None
+abbrev pub field_octets_text : Bool → FieldKind → List ℕ → Option (List ℕ)
+field_octets_text first kinds.Number8 os = led first (option_map decimal (number_of os))
+field_octets_text first kinds.Number16 os = led first (option_map decimal (number_of os))
+field_octets_text first kinds.Number32 os = led first (option_map decimal (number_of os))
+field_octets_text first kinds.Number48 os = None
+field_octets_text first kinds.Number64 os = None
+field_octets_text first kinds.Ttl os = led first (option_map decimal (number_of os))
+field_octets_text first kinds.Serial os = led first (option_map decimal (number_of os))
+field_octets_text first kinds.Time os = led first (option_map time_text (number_of os))
+field_octets_text first kinds.Rtype os = led first (option_map rtype_text (rtype_of os))
+field_octets_text first kinds.Ipv4 os = led first (option_map ipv4_text (of_size 4 os))
+field_octets_text first kinds.Ipv6 os = led first (option_map ipv6_octets_text (of_size 16 os))
+field_octets_text first kinds.Name os = None
+field_octets_text first kinds.CharString os = led first (option_map quoted (behind_count os))
+field_octets_text first kinds.OptionalString os = optional_text first os
+field_octets_text first kinds.CharStrings os = led first (some_text strings_text (Some os))
+field_octets_text first kinds.Tag os = led first (tag_of (behind_count os))
+field_octets_text first kinds.QuotedText os = led first (option_map quoted (few os))
+field_octets_text first kinds.CountedBase16 os = led first (option_map salt_text (behind_count os))
+field_octets_text first kinds.CountedBase32 os = led first (some_text base32hex_text (behind_count os))
+field_octets_text first kinds.CountedBase64 os = None
+field_octets_text first kinds.TypeBitmaps os = led first (some_text types_text (types_of os))
+field_octets_text first kinds.OptionalTypeBitmaps os = any_text types_text first (types_of os)
+field_octets_text first kinds.SvcParams os = any_text params_text first (params_in os)
+field_octets_text first kinds.Base16 os = led first (some_text base16_text (few os))
+field_octets_text first kinds.Base64 os = led first (some_text (encode_of standard) (few os))
+field_octets_text first kinds.Octets os = None

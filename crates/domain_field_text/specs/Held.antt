@@ -15,7 +15,7 @@ use Rattle.domain_dnssec.specs.Times.{time_text}
 use Rattle.domain_dnssec.specs.TypesText.{types_text}
 use Rattle.domain_svcb.specs.ParamText.{params_text}
 use Rattle.domain_svcb.specs.ParamsViews.{params_of}
-use Rattle.domain_field_text.specs.Base32.{base32_text}
+use Rattle.domain_field_text.specs.Base32.{base32hex_text}
 use Rattle.domain_field_text.specs.FieldTexts.{lead, strings_text}
 use Rattle.domain_field_text.specs.declared.field.FieldText.{FieldText}
 use Rattle.domain_field_text.specs.declared.field.FieldText.TheVariants as held
@@ -32,11 +32,11 @@ held_text first (held.Strings os) = lead first ++ strings_text os.now
 held_text first (held.Tag it) = lead first ++ tag_octets it
 held_text first held.Hyphen = lead first ++ 45 ∷ []
 held_text first (held.Base16 it) = lead first ++ base16_text (last_octets it)
-held_text first (held.Base32 os) = lead first ++ base32_text os.now
+held_text first (held.Base32 os) = lead first ++ base32hex_text os.now
 held_text first (held.Base64 it) = lead first ++ encode_of standard (last_octets it)
 held_text first (held.Types it) = lead first ++ types_text (bitmaps_types it)
 held_text first (held.Params it) = lead first ++ params_text (params_of it)
 
 -- This is what was read: it has this text, as the first field and as another; or there is none.
-abbrev pub HasText : Option FieldText → (Bool → Option (List ℕ)) → Type 0
-HasText held text = (first : Bool) → option_map (held_text first) held ≡ text first
+abbrev pub HasFieldText : Option FieldText → (Bool → Option (List ℕ)) → Type 0
+HasFieldText held text = (first : Bool) → option_map (held_text first) held ≡ text first

@@ -1,13 +1,13 @@
 //! Octets in base32hex without padding (RFC 4648, 7; RFC 5155, 3.3).
 ghost use Rattle.std.specs.Prelude.{◌≡◌, ◌<◌, Some};
-ghost use Rattle.domain_field_text.specs.Base32.{base32_digit, base32_group, base32_end, base32_text};
+ghost use Rattle.domain_field_text.specs.Base32.{base32hex_digit, base32hex_group, base32hex_end, base32hex_text};
 
 use std::fmt;
 
 /// The digit of a number, in lower case.
 fn base32_character(number: u8) -> char
     requires { number < 32 }
-    ensures { result ≡ base32_digit number }
+    ensures { result ≡ base32hex_digit number }
 {
     if number < 10 {
         (b'0' + number) as char
@@ -18,7 +18,7 @@ fn base32_character(number: u8) -> char
 
 /// The eight digits of five octets.
 fn group_of(a: u8, b: u8, c: u8, d: u8, e: u8) -> [char; 8]
-    ensures { result ≡ base32_group a b c d e }
+    ensures { result ≡ base32hex_group a b c d e }
 {
     [
         base32_character(a / 8),
@@ -43,7 +43,7 @@ struct Group {
 }
 
 impl fmt::Display for Group {
-    ghost output = { λ it. Some (base32_group it.a it.b it.c it.d it.e) };
+    ghost output = { λ it. Some (base32hex_group it.a it.b it.c it.d it.e) };
 
     fn fmt<W: fmt::Write>(&self, f: &mut fmt::Formatter<W>) -> fmt::Result {
         let [a, b, c, d, e, g, h, i] = group_of(self.a, self.b, self.c, self.d, self.e);
@@ -58,7 +58,7 @@ struct LastGroup<'a> {
 }
 
 impl<'a> fmt::Display for LastGroup<'a> {
-    ghost output = { λ it. Some (base32_end it.octets.now) };
+    ghost output = { λ it. Some (base32hex_end it.octets.now) };
 
     fn fmt<W: fmt::Write>(&self, f: &mut fmt::Formatter<W>) -> fmt::Result {
         match self.octets {
@@ -90,7 +90,7 @@ pub struct Base32<'a> {
 }
 
 impl<'a> fmt::Display for Base32<'a> {
-    ghost output = { λ it. Some (base32_text it.octets.now) };
+    ghost output = { λ it. Some (base32hex_text it.octets.now) };
 
     fn fmt<W: fmt::Write>(&self, f: &mut fmt::Formatter<W>) -> fmt::Result {
         let mut rest = self.octets;

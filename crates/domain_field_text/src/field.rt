@@ -10,12 +10,13 @@ ghost use Rattle.domain_strings.specs.Quoted.{quoted};
 ghost use Rattle.domain_dnssec.specs.BitmapViews.{bitmaps_types};
 ghost use Rattle.domain_dnssec.specs.Times.{time_text};
 ghost use Rattle.domain_dnssec.specs.TypesText.{types_text};
+ghost use Rattle.domain_svcb.specs.Lists.{ipv6_octets_text};
 ghost use Rattle.domain_svcb.specs.ParamText.{params_text};
 ghost use Rattle.domain_svcb.specs.ParamsViews.{params_of as svc_params};
-ghost use Rattle.domain_field_text.specs.Base32.{base32_text};
-ghost use Rattle.domain_field_text.specs.FieldTexts.{led, number_of, rtype_of, exactly, few, behind_count, ipv6_octets_text, octets_text};
-ghost use Rattle.domain_field_text.specs.FieldTexts.{optional_text, some_text, any_text, strings_text, tag_of, counted_text, types_of, params_of};
-ghost use Rattle.domain_field_text.specs.Held.{HasText};
+ghost use Rattle.domain_field_text.specs.Base32.{base32hex_text};
+ghost use Rattle.domain_field_text.specs.FieldTexts.{led, number_of, rtype_of, of_size, few, behind_count, field_octets_text};
+ghost use Rattle.domain_field_text.specs.FieldTexts.{optional_text, some_text, any_text, strings_text, tag_of, salt_text, types_of, params_in};
+ghost use Rattle.domain_field_text.specs.Held.{HasFieldText};
 
 use domain_descriptor::FieldKind;
 use domain_dnssec::{RtypeField, TimeField, TypeBitmaps};
@@ -101,7 +102,7 @@ fn behind_count(octets: &[u8]) -> Option<&[u8]>
 
 /// A number.
 fn number_held(octets: &[u8]) -> Option<FieldText<'_>>
-    ensures { HasText result (λ first. led first (option_map decimal (number_of octets.now))) }
+    ensures { HasFieldText result (λ first. led first (option_map decimal (number_of octets.now))) }
 {
     match number_of(octets) {
         Some(number) => Some(FieldText::Number(number)),
@@ -111,7 +112,7 @@ fn number_held(octets: &[u8]) -> Option<FieldText<'_>>
 
 /// A time.
 fn time_held(octets: &[u8]) -> Option<FieldText<'_>>
-    ensures { HasText result (λ first. led first (option_map time_text (number_of octets.now))) }
+    ensures { HasFieldText result (λ first. led first (option_map time_text (number_of octets.now))) }
 {
     match number_of(octets) {
         Some(seconds) => Some(FieldText::Time(TimeField { seconds })),
@@ -121,7 +122,7 @@ fn time_held(octets: &[u8]) -> Option<FieldText<'_>>
 
 /// A type of records.
 fn rtype_held(octets: &[u8]) -> Option<FieldText<'_>>
-    ensures { HasText result (λ first. led first (option_map rtype_text (rtype_of octets.now))) }
+    ensures { HasFieldText result (λ first. led first (option_map rtype_text (rtype_of octets.now))) }
 {
     match rtype_of(octets) {
         Some(number) => {
@@ -134,7 +135,7 @@ fn rtype_held(octets: &[u8]) -> Option<FieldText<'_>>
 
 /// An IPv4 address.
 fn ipv4_held(octets: &[u8]) -> Option<FieldText<'_>>
-    ensures { HasText result (λ first. led first (option_map ipv4_text (exactly 4 octets.now))) }
+    ensures { HasFieldText result (λ first. led first (option_map ipv4_text (of_size 4 octets.now))) }
 {
     let [a, b, c, d] = octets else {
         return None;
@@ -145,8 +146,8 @@ fn ipv4_held(octets: &[u8]) -> Option<FieldText<'_>>
 
 /// An IPv6 address.
 fn ipv6_held(octets: &[u8]) -> Option<FieldText<'_>>
-    ensures { HasText result
-        (λ first. led first (option_map ipv6_octets_text (exactly 16 octets.now))) }
+    ensures { HasFieldText result
+        (λ first. led first (option_map ipv6_octets_text (of_size 16 octets.now))) }
 {
     let [a, b, c, d, e, f, g, h, i, j, k, l, m, n, o, p] = octets else {
         return None;
@@ -160,7 +161,7 @@ fn ipv6_held(octets: &[u8]) -> Option<FieldText<'_>>
 
 /// Octets between quotes.
 fn quoted_held(octets: &[u8]) -> Option<FieldText<'_>>
-    ensures { HasText result (λ first. led first (option_map quoted (few octets.now))) }
+    ensures { HasFieldText result (λ first. led first (option_map quoted (few octets.now))) }
 {
     match QuotedOctets::from_octets(octets) {
         Ok(octets) => Some(FieldText::Quoted(octets)),
@@ -170,7 +171,7 @@ fn quoted_held(octets: &[u8]) -> Option<FieldText<'_>>
 
 /// A character string.
 fn string_held(octets: &[u8]) -> Option<FieldText<'_>>
-    ensures { HasText result (λ first. led first (option_map quoted (behind_count octets.now))) }
+    ensures { HasFieldText result (λ first. led first (option_map quoted (behind_count octets.now))) }
 {
     match behind_count(octets) {
         Some(string) => quoted_held(string),
@@ -180,7 +181,7 @@ fn string_held(octets: &[u8]) -> Option<FieldText<'_>>
 
 /// A character string, or none.
 fn optional_held(octets: &[u8]) -> Option<FieldText<'_>>
-    ensures { HasText result (λ first. optional_text first octets.now) }
+    ensures { HasFieldText result (λ first. optional_text first octets.now) }
 {
     if octets.is_empty() {
         return Some(FieldText::Absent);
@@ -190,7 +191,7 @@ fn optional_held(octets: &[u8]) -> Option<FieldText<'_>>
 
 /// Character strings, one or more.
 fn strings_held(octets: &[u8]) -> Option<FieldText<'_>>
-    ensures { HasText result (λ first. led first (some_text strings_text (Some octets.now))) }
+    ensures { HasFieldText result (λ first. led first (some_text strings_text (Some octets.now))) }
 {
     if octets.is_empty() {
         return None;
@@ -200,7 +201,7 @@ fn strings_held(octets: &[u8]) -> Option<FieldText<'_>>
 
 /// A tag.
 fn tag_held(octets: &[u8]) -> Option<FieldText<'_>>
-    ensures { HasText result (λ first. led first (tag_of (behind_count octets.now))) }
+    ensures { HasFieldText result (λ first. led first (tag_of (behind_count octets.now))) }
 {
     let Some(tag) = behind_count(octets) else {
         return None;
@@ -213,8 +214,8 @@ fn tag_held(octets: &[u8]) -> Option<FieldText<'_>>
 
 /// Octets in hexadecimal digits, or a hyphen.
 fn counted_held(octets: &[u8]) -> Option<FieldText<'_>>
-    ensures { HasText result
-        (λ first. led first (option_map counted_text (behind_count octets.now))) }
+    ensures { HasFieldText result
+        (λ first. led first (option_map salt_text (behind_count octets.now))) }
 {
     let Some(octets) = behind_count(octets) else {
         return None;
@@ -230,8 +231,8 @@ fn counted_held(octets: &[u8]) -> Option<FieldText<'_>>
 
 /// Octets in base32hex, one or more.
 fn base32_held(octets: &[u8]) -> Option<FieldText<'_>>
-    ensures { HasText result
-        (λ first. led first (some_text base32_text (behind_count octets.now))) }
+    ensures { HasFieldText result
+        (λ first. led first (some_text base32hex_text (behind_count octets.now))) }
 {
     let Some(octets) = behind_count(octets) else {
         return None;
@@ -244,7 +245,7 @@ fn base32_held(octets: &[u8]) -> Option<FieldText<'_>>
 
 /// Octets in hexadecimal digits, one or more.
 fn base16_held(octets: &[u8]) -> Option<FieldText<'_>>
-    ensures { HasText result (λ first. led first (some_text base16_text (few octets.now))) }
+    ensures { HasFieldText result (λ first. led first (some_text base16_text (few octets.now))) }
 {
     if octets.is_empty() {
         return None;
@@ -257,7 +258,7 @@ fn base16_held(octets: &[u8]) -> Option<FieldText<'_>>
 
 /// Octets in base64, one or more.
 fn base64_held(octets: &[u8]) -> Option<FieldText<'_>>
-    ensures { HasText result
+    ensures { HasFieldText result
         (λ first. led first (some_text (encode_of standard) (few octets.now))) }
 {
     if octets.is_empty() {
@@ -283,7 +284,7 @@ fn bitmaps_of(octets: &[u8]) -> Option<TypeBitmaps<&[u8]>>
 
 /// Types, one or more.
 fn types_held(octets: &[u8]) -> Option<FieldText<'_>>
-    ensures { HasText result (λ first. led first (some_text types_text (types_of octets.now))) }
+    ensures { HasFieldText result (λ first. led first (some_text types_text (types_of octets.now))) }
 {
     if octets.is_empty() {
         return None;
@@ -299,7 +300,7 @@ fn types_held(octets: &[u8]) -> Option<FieldText<'_>>
 
 /// Types, or none.
 fn optional_types_held(octets: &[u8]) -> Option<FieldText<'_>>
-    ensures { HasText result (λ first. any_text types_text first (types_of octets.now)) }
+    ensures { HasFieldText result (λ first. any_text types_text first (types_of octets.now)) }
 {
     if octets.is_empty() {
         return Some(FieldText::Absent);
@@ -315,8 +316,8 @@ fn optional_types_held(octets: &[u8]) -> Option<FieldText<'_>>
 
 /// The service parameters that octets are.
 #[tactic(auto, using(crate::proofs::Params::params_are, crate::proofs::Params::params_none))]
-fn svc_params_of(octets: &[u8]) -> Option<SvcParams<&[u8]>>
-    ensures { option_map (λ it. svc_params it) result ≡ params_of octets.now }
+fn svc_params_in(octets: &[u8]) -> Option<SvcParams<&[u8]>>
+    ensures { option_map (λ it. svc_params it) result ≡ params_in octets.now }
 {
     match SvcParams::from_octets(octets) {
         Ok(params) => Some(params),
@@ -326,9 +327,9 @@ fn svc_params_of(octets: &[u8]) -> Option<SvcParams<&[u8]>>
 
 /// Service parameters, or none.
 fn params_held(octets: &[u8]) -> Option<FieldText<'_>>
-    ensures { HasText result (λ first. any_text params_text first (params_of octets.now)) }
+    ensures { HasFieldText result (λ first. any_text params_text first (params_in octets.now)) }
 {
-    let Some(params) = svc_params_of(octets) else {
+    let Some(params) = svc_params_in(octets) else {
         return None;
     };
     match params.iter().next() {
@@ -343,7 +344,7 @@ impl<'a> FieldText<'a> {
     /// `None` if they have no text: where they aren't such a field, or it is a name, or has no form of its own. Such
     /// data is written in the form of RFC 3597, 5.
     pub fn read(kind: FieldKind, octets: &'a [u8]) -> Option<FieldText<'a>>
-        ensures { HasText result (λ first. octets_text first kind octets.now) }
+        ensures { HasFieldText result (λ first. field_octets_text first kind octets.now) }
     {
         match kind {
             FieldKind::Number8

@@ -7,7 +7,7 @@ use Rattle.domain_descriptor.specs.Table.{known_fields}
 use Rattle.domain_descriptor.specs.declared.rdata.Rdata.{Rdata}
 use Rattle.domain_any_rdata.proofs.Telling.{told_data}
 use Rattle.domain_any_rdata.specs.Reading.{NoDataAt}
-use Rattle.domain_any_rdata.specs.Texts.{rdata_text, data_text}
+use Rattle.domain_any_rdata.specs.Texts.{rdata_text, shown_data}
 use Rattle.domain_message.specs.Entries.{RecordFields}
 use Rattle.domain_lines.specs.Records.{IsBare, HasData, HasNoData, line_text, unread_text, IsRecordLine}
 use Rattle.domain_lines.specs.Records.IsRecordLine.{typed, unread}
@@ -19,7 +19,7 @@ typed_line it m p found octets start data_due is are =
     let t = it.header.rtype in
     let k = it.header.class in
     let here : HasData it = subst (λ x. AreData (known_fields t k) it.octets x) start (subst (λ x. AreData (known_fields t k) x p) octets are) in
-    let text : rdata_text found ≡ data_text t k it.octets it.start = told_data t k m p found is ∙ (ap (λ x. data_text t k x p) octets ∙ ap (λ x. data_text t k it.octets x) start) in
+    let text : rdata_text found ≡ shown_data t k it.octets it.start = told_data t k m p found is ∙ (ap (λ x. shown_data t k x p) octets ∙ ap (λ x. shown_data t k it.octets x) start) in
     typed data_due here (ap (line_text it) text)
 
 -- data that can't be read

@@ -13,7 +13,7 @@ use Rattle.domain_rdata.specs.AnyData.{unknown_text}
 use Rattle.domain_descriptor.specs.Fields.{AreData}
 use Rattle.domain_descriptor.specs.Table.{known_fields}
 use Rattle.domain_any_rdata.specs.Reading.{NoDataAt}
-use Rattle.domain_any_rdata.specs.Texts.{data_text}
+use Rattle.domain_any_rdata.specs.Texts.{shown_data}
 use Rattle.domain_lines.specs.Edns.{remark, edns_line, another_text, AreOptionLines}
 use Rattle.domain_field_text.specs.Names.{zone_name}
 
@@ -39,7 +39,7 @@ unread_text it why = line_text it (unknown_text (rdata_octets it) ++ remark why)
 
 -- the line of a record with its data as its type and class have it
 abbrev pub typed_text : RecordFields → List ℕ
-typed_text it = line_text it (data_text it.header.rtype it.header.class it.octets it.start)
+typed_text it = line_text it (shown_data it.header.rtype it.header.class it.octets it.start)
 
 -- Its data is there: exactly the fields of its type in its class.
 abbrev pub HasData : RecordFields → Type 0

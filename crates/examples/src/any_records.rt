@@ -6,8 +6,8 @@ use domain_message::{Message, Record};
 use domain_wire::ParseError;
 use std::io::Write;
 
-/// Writes a line for each record of the answer section: owner, TTL, class, type, and data as its type and class have it. Returns
-/// whether all were written.
+/// Writes a line for each record of the answer section: owner, TTL, class, type, and data as its type and class have
+/// it. Returns whether all were written.
 pub fn show_answers<W: Write>(octets: &[u8], output: &mut W) -> Result<bool, ParseError>
     ensures { length octets.now < 12 → result ≡ Err ParseError.ShortInput }
 {
