@@ -37,9 +37,11 @@ nothing_left zero (c ∷ o) few = absurd (omega (arith, few))
 nothing_left (suc k) (c ∷ o) few = nothing_left k o (omega (arith, few))
 
 -- the last string, whole or cut
-pub last_cut : (o s : List ℕ) (n len : ℕ) → 1 ≤ length o → n ≡ length o - 1 → len ≡ get_or o 0 0 → s ≡ take n (drop 1 o) → length s ≤ len → strings_in o ≡ s ∷ []
-last_cut o s n len some e head is short =
+pub last_cut : (o s r : List ℕ) (n len : ℕ) → 1 ≤ length o → n ≡ length o - 1 → len ≡ get_or o 0 0 → length (take n (drop 1 o)) ≤ len
+    → s ≡ take (length (take n (drop 1 o))) (take n (drop 1 o)) → r ≡ drop (length (take n (drop 1 o))) (take n (drop 1 o)) → strings_in o ≡ s ∷ strings_in r
+last_cut o s r n len some e head short front back =
     let after = take n (drop 1 o) in
-    let few : length after ≤ len = omega (arith, ap length is, short) in
-    let none : drop len after ≡ [] = nothing_left len after few in
-    first_cut o s [] n len some e head (is ∙ sym (take_all len after few)) (sym none)
+    let size = length after in
+    let whole : take size after ≡ take len after = take_all size after (omega arith) ∙ sym (take_all len after short) in
+    let none : drop size after ≡ drop len after = nothing_left size after (omega arith) ∙ sym (nothing_left len after short) in
+    first_cut o s r n len some e head (front ∙ whole) (back ∙ none)

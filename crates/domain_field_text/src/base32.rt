@@ -63,20 +63,22 @@ impl<'a> fmt::Display for LastGroup<'a> {
     fn fmt<W: fmt::Write>(&self, f: &mut fmt::Formatter<W>) -> fmt::Result {
         match self.octets {
             [a] => {
-                let [a, b, ..] = group_of(*a, 0, 0, 0, 0);
-                write!(f, "{a}{b}")
+                let [first, second, _, _, _, _, _, _] = group_of(*a, 0, 0, 0, 0);
+                write!(f, "{first}{second}")
             }
             [a, b] => {
-                let [a, b, c, d, ..] = group_of(*a, *b, 0, 0, 0);
-                write!(f, "{a}{b}{c}{d}")
+                let [first, second, third, fourth, _, _, _, _] = group_of(*a, *b, 0, 0, 0);
+                write!(f, "{first}{second}{third}{fourth}")
             }
             [a, b, c] => {
-                let [a, b, c, d, e, ..] = group_of(*a, *b, *c, 0, 0);
-                write!(f, "{a}{b}{c}{d}{e}")
+                let [first, second, third, fourth, fifth, _, _, _] = group_of(*a, *b, *c, 0, 0);
+                write!(f, "{first}{second}{third}{fourth}{fifth}")
             }
             [a, b, c, d] => {
-                let [a, b, c, d, e, g, h, _] = group_of(*a, *b, *c, *d, 0);
-                write!(f, "{a}{b}{c}{d}{e}{g}{h}")
+                let [first, second, third, fourth, fifth, sixth, seventh, _] = group_of(
+                    *a, *b, *c, *d, 0,
+                );
+                write!(f, "{first}{second}{third}{fourth}{fifth}{sixth}{seventh}")
             }
             _ => Ok(()),
         }

@@ -292,7 +292,8 @@ fn types_held(octets: &[u8]) -> Option<FieldText<'_>>
     let Some(bitmaps) = bitmaps_of(octets) else {
         return None;
     };
-    match bitmaps.iter().next() {
+    let mut types = bitmaps.iter();
+    match types.next() {
         Some(_) => Some(FieldText::Types(bitmaps)),
         None => None,
     }
@@ -308,7 +309,8 @@ fn optional_types_held(octets: &[u8]) -> Option<FieldText<'_>>
     let Some(bitmaps) = bitmaps_of(octets) else {
         return None;
     };
-    match bitmaps.iter().next() {
+    let mut types = bitmaps.iter();
+    match types.next() {
         Some(_) => Some(FieldText::Types(bitmaps)),
         None => Some(FieldText::Absent),
     }
@@ -332,7 +334,8 @@ fn params_held(octets: &[u8]) -> Option<FieldText<'_>>
     let Some(params) = svc_params_in(octets) else {
         return None;
     };
-    match params.iter().next() {
+    let mut left = params.iter();
+    match left.next() {
         Some(_) => Some(FieldText::Params(params)),
         None => Some(FieldText::Absent),
     }

@@ -39,7 +39,7 @@ impl<'a> fmt::Display for Shown<'a> {
 
     fn fmt<W: fmt::Write>(&self, f: &mut fmt::Formatter<W>) -> fmt::Result {
         let lead = Lead { first: self.first };
-        match &self.text {
+        match self.text {
             FieldText::Absent => Ok(()),
             FieldText::Number(number) => write!(f, "{lead}{number}"),
             FieldText::Time(time) => write!(f, "{lead}{time}"),

@@ -8,7 +8,7 @@ use std::fmt;
 
 /// The first of character strings without the octet that says how many it has, and the octets after it. `None` exactly
 /// where there is no octet.
-#[tactic(auto, using(crate::proofs::Cutting::first_cut))]
+#[tactic(auto, using(crate::proofs::Cutting::first_cut, crate::proofs::Cutting::last_cut))]
 fn split_string(octets: &[u8]) -> Option<(&[u8], &[u8])>
     ensures parts { MatchOption result (octets.now ≡ [])
         (λ it. strings_in octets.now ≡ it.0.now ∷ strings_in it.1.now) }
@@ -23,7 +23,7 @@ fn split_string(octets: &[u8]) -> Option<(&[u8], &[u8])>
     if len < after.len() {
         return Some(after.split_at(len));
     }
-    Some((after, &[]))
+    Some(after.split_at(after.len()))
 }
 
 /// Character strings, one after another: each between quotes, with a space between two.
