@@ -163,8 +163,8 @@ TYPED = {
     257: "1tq",  # RFC 8659
 }
 # The other types that `any` knows, in class IN. Beside the letters above: S character strings to the end, one or more, o one
-# or none, h octets behind their number in hexadecimal digits and H in base32hex, M bitmaps of types or none, v service
-# parameters. These have no text: 6 and 8, numbers of so many octets, B octets behind their number in two, y those to the end.
+# or none, M bitmaps of types or none, v service parameters. Octets behind their number are h in hexadecimal digits and H in
+# base32hex. Without a text are 6 and 8, numbers of 6 and 8 octets, B, octets behind their number in two, and y, those to the end.
 OTHERS = {
     11: "y", 16: "S",  # RFC 1035
     19: "s", 20: "so",  # RFC 1183

@@ -16,7 +16,7 @@ use Rattle.domain_any_rdata.proofs.Named.{parts_of_data}
 use Rattle.domain_any_rdata.specs.Parts.{parts_at, raw_octets, rdata_parts}
 use Rattle.domain_any_rdata.specs.Texts.{part_text, both_texts, text_or_nothing, parts_text, text_or_octets, fields_text, rdata_text, shown_data}
 
--- the fields that are left, where one was taken
+-- the remaining fields, where one was taken
 one_taken : (b : Bool) (ks rest : List FieldKind) (k : FieldKind) (xs others : List Part) (x : Part) → ks ≡ k ∷ rest → xs ≡ x ∷ others
     → parts_text b ks xs ≡ both_texts (part_text b k x) (parts_text false rest others)
 one_taken b ks rest k xs others x kinds parts = ap (λ y. parts_text b y xs) kinds ∙ ap (λ y. parts_text b (k ∷ rest) y) parts
@@ -34,7 +34,7 @@ lacks_first : (a b : Option (List ℕ)) → is_some a ≡ false → is_some (bot
 lacks_first None b told = refl
 lacks_first (Some s) b told = absurd (false≢true (sym told))
 
--- Those that are left, of which the next one is the first of data or isn't, decide.
+-- The remaining ones, of which the next is the first of data or isn't, decide.
 pub Decides : Option (List ℕ) → List FieldKind → List Part → Type 0
 Decides all ks xs = (b : Bool) × (is_some all ≡ is_some (parts_text b ks xs))
 
@@ -60,7 +60,7 @@ split None b told = absurd (false≢true told)
 split (Some s) None told = absurd (false≢true told)
 split (Some s) (Some t) told = (refl, refl)
 
--- What was written of the texts of fields, where each has one, and what is left.
+-- What was written of the texts of fields, where each has one, and what remains.
 pub record Told {W : Type 0} (took : W → List ℕ → W → Type 0) (f : Formatter W) (all : Option (List ℕ)) (b : Bool) (ks : List FieldKind) (xs : List Part) (g : Formatter W) : Type 0 where
   pub whole : is_some (parts_text b ks xs) ≡ true
   pub moved : HasMoved took f (text_or_nothing all) (text_or_nothing (parts_text b ks xs)) g

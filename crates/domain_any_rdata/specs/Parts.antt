@@ -52,7 +52,7 @@ rdata_parts it = parts_at (rdata_kinds it) (rdata_message it) (rdata_begin it)
 abbrev pub part_of : Field → Part
 part_of it = field_part (field_kind it) (field_message it) (field_begin it) (field_after it)
 
--- the parts of the fields that are left
+-- the parts of the remaining fields
 abbrev pub parts_left : FieldIter → List Part
 parts_left it = parts_at (kinds_left it) (fields_message it) (fields_offset it)
 
