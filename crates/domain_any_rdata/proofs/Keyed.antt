@@ -1,5 +1,5 @@
 -- Data is compared by its type, then by its class, and then by its octets.
-use Rattle.std.proofs.Common.{◌≡◌, ◌∙◌, true, false, List, ℕ, ◌∷◌, ◌++◌, fold, refl, sym, ap}
+use Rattle.std.proofs.Common.{◌≡◌, ◌∙◌, true, false, List, ℕ, ◌∷◌, ◌++◌, fold, sym, ap}
 use Rattle.std.proofs.lemmas.Bool.{false≢true}
 use Rattle.std.specs.Cmp.Lexicographic.{slice_cmp}
 use Rattle.std.specs.Ordering.{is_ne, nat_cmp, ordering_then}
@@ -9,12 +9,7 @@ use Rattle.std.specs.Hash as fed
 use Rattle.std.proofs.lemmas.Grind.{fold-append}
 use Rattle.domain_fields.specs.Orders.{hashed}
 use Rattle.domain_label.specs.Lowercase.{as_writes}
-use Rattle.domain_any_rdata.proofs.Cutting.{same_first}
-
-pub is_equal : (o : Ordering) → is_ne o ≡ false → o ≡ Equal
-is_equal Less same = absurd (false≢true (sym same))
-is_equal Equal same = refl
-is_equal Greater same = absurd (false≢true (sym same))
+use Rattle.domain_any_rdata.proofs.Cutting.{is_equal, same_first}
 
 -- the first that differ decide
 decided : (o p r : Ordering) → o ≡ p → is_ne o ≡ true → o ≡ ordering_then p r
