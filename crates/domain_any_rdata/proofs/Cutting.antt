@@ -93,8 +93,20 @@ pub fewer_left : (it : OctetReader) (n : ℕ) (rest : List ℕ) → 0 < n → n 
 fewer_left it n rest some few is =
     omega (arith, ap (λ (l : List ℕ). length l) is, length-drop n (remaining_octets it), longer_first (in_hand it) (remaining_octets it) (hand_first it), some, few)
 
-pub same_first : (o r : Ordering) → o ≡ Equal → ordering_then o r ≡ r
-same_first o r same = ap (λ (x : Ordering). ordering_then x r) same
+-- an order that isn't equal decides
+pub then_differs : (o rest : Ordering) → is_ne o ≡ true → ordering_then o rest ≡ o
+then_differs Less rest differ = refl
+then_differs Equal rest differ = absurd (false≢true differ)
+then_differs Greater rest differ = refl
+
+-- one that is equal leaves it to the rest
+pub then_same : (o rest : Ordering) → is_ne o ≡ false → ordering_then o rest ≡ rest
+then_same Less rest same = absurd (false≢true (sym same))
+then_same Equal rest same = refl
+then_same Greater rest same = absurd (false≢true (sym same))
+
+pub same_cmp : (x y rest others : List ℕ) → rest ≡ x → others ≡ y → slice_cmp nat_cmp rest others ≡ slice_cmp nat_cmp x y
+same_cmp x y rest others one two = ap (λ (l : List ℕ). slice_cmp nat_cmp l others) one ∙ ap (λ (l : List ℕ). slice_cmp nat_cmp x l) two
 
 -- one has no octets left
 pub none_less : (x y : List ℕ) → x ≡ [] → 0 < length y → slice_cmp nat_cmp x y ≡ Less
@@ -216,22 +228,6 @@ nothing_remains it rest none end =
 
 pub some_remain : (it : OctetReader) → 0 < length (in_hand it) → 0 < length (remaining_octets it)
 some_remain it some = omega (arith, some, longer_first (in_hand it) (remaining_octets it) (hand_first it))
-
--- ---- the loops
-pub is_equal : (o : Ordering) → is_ne o ≡ false → o ≡ Equal
-is_equal Less same = absurd (false≢true (sym same))
-is_equal Equal same = refl
-is_equal Greater same = absurd (false≢true (sym same))
-
--- octets in hand that differ decide
-pub hands_decide : (o all rest : Ordering) → all ≡ ordering_then o rest → is_ne o ≡ true → o ≡ all
-hands_decide Less all rest is differ = sym is
-hands_decide Equal all rest is differ = absurd (false≢true differ)
-hands_decide Greater all rest is differ = sym is
-
--- those that are the same leave it to the rest
-pub hands_same : (o all rest : Ordering) → all ≡ ordering_then o rest → is_ne o ≡ false → rest ≡ all
-hands_same o all rest is same = sym (is ∙ same_first o rest (is_equal o same))
 
 pub hashed_none : {H : Type 0} (write : H → List ℕ → H) (left : List ℕ) (state all : H) → left ≡ [] → hashed write left state ≡ all → state ≡ all
 hashed_none write left state all none same = ap (λ (x : List ℕ). hashed write x state) (sym none) ∙ same

@@ -30,7 +30,7 @@ fn order_hands(first: &mut OctetReader<'_>, second: &mut OctetReader<'_>) -> Ord
 
 /// Returns the order of the remaining octets of two readers: as unsigned numbers from the left, where a missing octet
 /// comes before any (RFC 4034, 6.3).
-#[tactic(auto, using(crate::proofs::Cutting::hands_decide, crate::proofs::Cutting::hands_same, crate::proofs::Cutting::none_less, crate::proofs::Cutting::some_greater, crate::proofs::Cutting::both_none, crate::proofs::Cutting::some_remain))]
+#[tactic(auto, using(crate::proofs::Cutting::then_differs, crate::proofs::Cutting::then_same, crate::proofs::Cutting::none_less, crate::proofs::Cutting::some_greater, crate::proofs::Cutting::both_none, crate::proofs::Cutting::some_remain))]
 pub(crate) fn order_octets(first: OctetReader<'_>, second: OctetReader<'_>) -> Ordering
     ensures { result ≡ slice_cmp nat_cmp (remaining_octets first.entry) (remaining_octets second.entry) }
 {
