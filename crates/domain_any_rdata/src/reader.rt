@@ -7,7 +7,6 @@ use arrayvec::ArrayVec;
 use domain_descriptor::Rdata;
 use domain_descriptor::rdata::FieldIter;
 use domain_fields::DataName;
-use octseq::Truncate;
 
 /// The remaining octets of data: the rest of a name or of another field, and the fields after it.
 ///
