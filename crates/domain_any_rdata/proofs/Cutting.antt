@@ -1,22 +1,27 @@
 -- Octets that are taken from the left.
-use Rattle.std.proofs.Common.{◌≡◌, ◌∙◌, ℕ, ◌+◌, ◌-◌, ◌≤◌, ◌<◌, Bool, true, false, nat_lt, if◌then◌else◌, List, [], ◌∷◌, ◌++◌, length, take, drop, fold, refl, sym, ap, arith, append_assoc, append-nil, length-append, length-drop}
+use Rattle.std.proofs.Common.{◌≡◌, ◌∙◌, ℕ, ◌+◌, ◌≤◌, ◌<◌, Bool, true, false, nat_lt, if◌then◌else◌, List, [], ◌∷◌, ◌++◌, length, take, drop, fold, refl, sym, ap, arith, append_assoc, append-nil, length-append, length-drop}
 use Rattle.std.specs.Cmp.Lexicographic.{slice_cmp}
-use Rattle.std.specs.Ordering.{nat_cmp, ordering_then}
+use Rattle.std.specs.Ordering.{is_ne, nat_cmp, ordering_then}
 use Rattle.std.specs.declared.cmp.Ordering.{Ordering}
 use Rattle.std.specs.declared.cmp.Ordering.TheVariants.{Less, Equal, Greater}
 use Rattle.std.proofs.Math.ListN.{drop_of_length-le}
 use Rattle.std.proofs.Math.Seq.{drop-append_seam}
+use Rattle.std.proofs.lemmas.Bool.{false≢true}
 use Rattle.std.proofs.lemmas.Bool.Decides.{nat_tests}
 use Rattle.std.proofs.lemmas.Grind.{fold-append, flat_map-append}
 use Rattle.std.proofs.lemmas.List.{take-append-drop, length-take-le, drop-append-le, take-append-le, drop-drop}
 use Rattle.std.specs.Hash as fed
 use Rattle.domain_label.specs.Lowercase.{as_writes}
+use Rattle.domain_descriptor.specs.Rdatas.{rdata_kinds, rdata_message, rdata_begin, HasFieldsLeft}
+use Rattle.domain_descriptor.specs.declared.rdata.FieldIter.{FieldIter}
+use Rattle.domain_descriptor.specs.declared.rdata.Rdata.{Rdata}
 use Rattle.domain_fields.proofs.Ordering.{as_many_cmp}
 use Rattle.domain_fields.specs.Orders.{hashed}
-use Rattle.domain_fields.specs.Parts.{Part, part_octets, parts_octets}
-use Rattle.domain_any_rdata.specs.Parts.{parts_left}
+use Rattle.domain_fields.specs.Parts.{Part, no_name, part_octets, parts_octets}
+use Rattle.domain_any_rdata.specs.Parts.{parts_left, rdata_parts}
 use Rattle.domain_any_rdata.specs.Readers.{remaining_octets, in_hand}
 use Rattle.domain_any_rdata.specs.declared.reader.OctetReader.{OctetReader}
+use Rattle.domain_any_rdata.proofs.Named.{all_left}
 
 -- ---- the octets in hand come first: the rest of a name, or those of another field
 drop_more : (xs : List ℕ) (a b : ℕ) → drop (a + b) xs ≡ drop b (drop a xs)
@@ -88,13 +93,20 @@ pub fewer_left : (it : OctetReader) (n : ℕ) (rest : List ℕ) → 0 < n → n 
 fewer_left it n rest some few is =
     omega (arith, ap (λ (l : List ℕ). length l) is, length-drop n (remaining_octets it), longer_first (in_hand it) (remaining_octets it) (hand_first it), some, few)
 
-pub differ_first : (o r : Ordering) → (o ≡ Equal → ⊥) → ordering_then o r ≡ o
-differ_first Less r differs = refl
-differ_first Equal r differs = absurd (differs refl)
-differ_first Greater r differs = refl
+-- an order that isn't equal decides
+pub then_differs : (o rest : Ordering) → is_ne o ≡ true → ordering_then o rest ≡ o
+then_differs Less rest differ = refl
+then_differs Equal rest differ = absurd (false≢true differ)
+then_differs Greater rest differ = refl
 
-pub same_first : (o r : Ordering) → o ≡ Equal → ordering_then o r ≡ r
-same_first o r same = ap (λ (x : Ordering). ordering_then x r) same
+-- one that is equal leaves it to the rest
+pub then_same : (o rest : Ordering) → is_ne o ≡ false → ordering_then o rest ≡ rest
+then_same Less rest same = absurd (false≢true (sym same))
+then_same Equal rest same = refl
+then_same Greater rest same = absurd (false≢true (sym same))
+
+pub same_cmp : (x y rest others : List ℕ) → rest ≡ x → others ≡ y → slice_cmp nat_cmp rest others ≡ slice_cmp nat_cmp x y
+same_cmp x y rest others one two = ap (λ (l : List ℕ). slice_cmp nat_cmp l others) one ∙ ap (λ (l : List ℕ). slice_cmp nat_cmp x l) two
 
 -- one has no octets left
 pub none_less : (x y : List ℕ) → x ≡ [] → 0 < length y → slice_cmp nat_cmp x y ≡ Less
@@ -153,6 +165,69 @@ pub none_of : (xs : List ℕ) → length xs ≡ 0 → xs ≡ []
 none_of [] none = refl
 none_of (x ∷ xs) none = absurd (omega (arith, none))
 
--- ---- the loops
+-- ---- the calls
+-- a new reader has nothing in hand
+pub all_remain : (it : Rdata) (fields : FieldIter) (lowercase : Bool) (name : List ℕ) → name ≡ [] → HasFieldsLeft (rdata_kinds it) (rdata_message it) (rdata_begin it) fields
+    → drop 0 name ++ ([] ++ parts_octets lowercase (parts_left fields)) ≡ parts_octets lowercase (rdata_parts it)
+all_remain it fields lowercase name none has =
+    ap (λ (n : List ℕ). drop 0 n ++ ([] ++ parts_octets lowercase (parts_left fields))) none
+    ∙ ap (λ (ps : List Part). parts_octets lowercase ps) (all_left it fields has)
+
+-- what is in hand, by the test of the calls
+by_name : (it : OctetReader) (c : Bool) → nat_lt it.taken (length it.name.items) ≡ c → it.taken < length it.name.items
+    → (if c then drop it.taken it.name.items else it.octets.now) ≡ drop it.taken it.name.items
+by_name it true few some = refl
+by_name it false many some = let gone : length it.name.items ≤ it.taken = grind (arith, nat_tests) in absurd (omega (arith, gone, some))
+
+pub name_in_hand : (it : OctetReader) → it.taken < length it.name.items → in_hand it ≡ drop it.taken it.name.items
+name_in_hand it some = by_name it (nat_lt it.taken (length it.name.items)) refl some
+
+by_octets : (it : OctetReader) (c : Bool) → nat_lt it.taken (length it.name.items) ≡ c → length it.name.items ≤ it.taken
+    → (if c then drop it.taken it.name.items else it.octets.now) ≡ it.octets.now
+by_octets it true few gone = let some : it.taken < length it.name.items = grind (arith, nat_tests) in absurd (omega (arith, gone, some))
+by_octets it false many gone = refl
+
+pub octets_in_hand : (it : OctetReader) → length it.name.items ≤ it.taken → in_hand it ≡ it.octets.now
+octets_in_hand it gone = by_octets it (nat_lt it.taken (length it.name.items)) refl gone
+
+-- as many as are skipped are there
+pub name_has : (it : OctetReader) (n : ℕ) → it.taken < length it.name.items → n ≤ length (in_hand it) → it.taken + n ≤ length it.name.items
+name_has it n some few =
+    omega (arith, some, few, ap (λ (x : List ℕ). length x) (name_in_hand it some), length-drop it.taken it.name.items)
+
+pub octets_have : (it : OctetReader) (n : ℕ) → length it.name.items ≤ it.taken → n ≤ length (in_hand it) → n ≤ length it.octets.now
+octets_have it n gone few = omega (arith, few, ap (λ (x : List ℕ). length x) (octets_in_hand it gone))
+
+pub name_skipped : (it : OctetReader) (n : ℕ) → it.taken < length it.name.items → n ≤ length (in_hand it)
+    → drop (it.taken + n) it.name.items ++ (it.octets.now ++ parts_octets it.lowercase (parts_left it.fields)) ≡ drop n (remaining_octets it)
+name_skipped it n some few =
+    rest_taken it.name.items (it.octets.now ++ parts_octets it.lowercase (parts_left it.fields)) it.taken n
+    (omega (arith, few, ap (λ (x : List ℕ). length x) (name_in_hand it some)))
+
+pub octets_skipped : (it : OctetReader) (n : ℕ) → length it.name.items ≤ it.taken → n ≤ length (in_hand it)
+    → drop it.taken it.name.items ++ (drop n it.octets.now ++ parts_octets it.lowercase (parts_left it.fields)) ≡ drop n (remaining_octets it)
+octets_skipped it n gone few =
+    octets_taken it.name.items it.octets.now (parts_octets it.lowercase (parts_left it.fields)) it.taken n gone (octets_have it n gone few)
+
+-- another field is taken
+pub field_taken : (it : OctetReader) (x : Part) (rest : List Part) (octets : List ℕ) → in_hand it ≡ [] → parts_left it.fields ≡ x ∷ rest → x ≡ no_name octets
+    → drop it.taken it.name.items ++ (octets ++ parts_octets it.lowercase rest) ≡ remaining_octets it
+field_taken it x rest octets none first is =
+    let e = nothing_in_hand it none in
+    next_taken it x rest (drop it.taken it.name.items) octets none first
+    (ap (λ (d : List ℕ). d ++ octets) e.0 ∙ ap (λ (y : Part). part_octets it.lowercase y) (sym is))
+
+-- no field is left
+pub nothing_remains : (it : OctetReader) (rest : List Part) → in_hand it ≡ [] → rest ≡ []
+    → drop it.taken it.name.items ++ (it.octets.now ++ parts_octets it.lowercase rest) ≡ []
+nothing_remains it rest none end =
+    let e = nothing_in_hand it none in
+    ap (λ (d : List ℕ). d ++ (it.octets.now ++ parts_octets it.lowercase rest)) e.0
+    ∙ ap (λ (o : List ℕ). o ++ parts_octets it.lowercase rest) e.1
+    ∙ ap (λ (l : List Part). parts_octets it.lowercase l) end
+
+pub some_remain : (it : OctetReader) → 0 < length (in_hand it) → 0 < length (remaining_octets it)
+some_remain it some = omega (arith, some, longer_first (in_hand it) (remaining_octets it) (hand_first it))
+
 pub hashed_none : {H : Type 0} (write : H → List ℕ → H) (left : List ℕ) (state all : H) → left ≡ [] → hashed write left state ≡ all → state ≡ all
 hashed_none write left state all none same = ap (λ (x : List ℕ). hashed write x state) (sym none) ∙ same

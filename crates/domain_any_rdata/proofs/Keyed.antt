@@ -1,34 +1,22 @@
 -- Data is compared by its type, then by its class, and then by its octets.
-use Rattle.std.proofs.Common.{◌≡◌, ◌∙◌, true, false, List, ℕ, ◌∷◌, ◌++◌, fold, refl, sym, ap}
-use Rattle.std.proofs.lemmas.Bool.{false≢true}
+use Rattle.std.proofs.Common.{◌≡◌, ◌∙◌, true, false, List, ℕ, ◌∷◌, ◌++◌, fold, sym, ap}
 use Rattle.std.specs.Cmp.Lexicographic.{slice_cmp}
-use Rattle.std.specs.Ordering.{is_ne, nat_cmp, ordering_then}
+use Rattle.std.specs.Ordering.{is_ne, nat_cmp}
 use Rattle.std.specs.declared.cmp.Ordering.{Ordering}
-use Rattle.std.specs.declared.cmp.Ordering.TheVariants.{Less, Equal, Greater}
 use Rattle.std.specs.Hash as fed
 use Rattle.std.proofs.lemmas.Grind.{fold-append}
 use Rattle.domain_fields.specs.Orders.{hashed}
 use Rattle.domain_label.specs.Lowercase.{as_writes}
-use Rattle.domain_any_rdata.proofs.Cutting.{same_first}
+use Rattle.domain_any_rdata.proofs.Cutting.{then_differs, then_same}
 
-pub is_equal : (o : Ordering) → is_ne o ≡ false → o ≡ Equal
-is_equal Less same = absurd (false≢true (sym same))
-is_equal Equal same = refl
-is_equal Greater same = absurd (false≢true (sym same))
-
--- the first that differ decide
-decided : (o p r : Ordering) → o ≡ p → is_ne o ≡ true → o ≡ ordering_then p r
-decided Less p r is differ = ap (λ (x : Ordering). ordering_then x r) is
-decided Equal p r is differ = absurd (false≢true differ)
-decided Greater p r is differ = ap (λ (x : Ordering). ordering_then x r) is
-
+-- numbers that differ decide
 pub by_first : (o : Ordering) (a b : ℕ) (x y : List ℕ) → o ≡ nat_cmp a b → is_ne o ≡ true → o ≡ slice_cmp nat_cmp (a ∷ x) (b ∷ y)
-by_first o a b x y is differ = decided o (nat_cmp a b) (slice_cmp nat_cmp x y) is differ
+by_first o a b x y is differ = is ∙ sym (then_differs (nat_cmp a b) (slice_cmp nat_cmp x y) (ap is_ne (sym is) ∙ differ))
 
--- those that are the same leave it to the next
+-- those that are the same leave it to the rest
 pub by_rest : (o r : Ordering) (a b : ℕ) (x y : List ℕ) → o ≡ nat_cmp a b → is_ne o ≡ false → r ≡ slice_cmp nat_cmp x y → r ≡ slice_cmp nat_cmp (a ∷ x) (b ∷ y)
 by_rest o r a b x y is same rest =
-    rest ∙ sym (same_first (nat_cmp a b) (slice_cmp nat_cmp x y) (sym is ∙ is_equal o same))
+    rest ∙ sym (then_same (nat_cmp a b) (slice_cmp nat_cmp x y) (ap is_ne (sym is) ∙ same))
 
 -- what is written of each, one after another
 pub all_hashed : {H : Type 0} (write : H → List ℕ → H) (a b : fed.HashWrites) (octets : List ℕ) (state first second all : H)

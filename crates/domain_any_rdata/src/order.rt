@@ -22,6 +22,7 @@ impl<'m> AllRecordData<'m> {
     ghost use Rattle.domain_any_rdata.specs.Readers.{remaining_octets};
 
     /// Returns a reader of the octets of the canonical form.
+    #[tactic(auto, using(crate::proofs::Forms::lowered))]
     fn canonical(&self) -> OctetReader<'m>
         ensures { remaining_octets result
             ≡ canonical_octets (data_type self.now) (data_class self.now) (data_parts self.now) }
@@ -30,6 +31,7 @@ impl<'m> AllRecordData<'m> {
     }
 
     /// Returns the order of the types, then of the classes, and then of the canonical forms.
+    #[tactic(auto, using(crate::proofs::Keyed::by_first, crate::proofs::Keyed::by_rest))]
     fn key_cmp(&self, other: &AllRecordData<'m>) -> Ordering
         ensures { result ≡ key_order (data_key self.now) (data_key other.now) }
     {

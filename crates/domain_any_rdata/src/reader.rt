@@ -7,7 +7,6 @@ use arrayvec::ArrayVec;
 use domain_descriptor::Rdata;
 use domain_descriptor::rdata::FieldIter;
 use domain_fields::DataName;
-use octseq::Truncate;
 
 /// The remaining octets of data: the rest of a name or of another field, and the fields after it.
 ///
@@ -26,6 +25,7 @@ impl<'m> OctetReader<'m> {
     ghost use Rattle.domain_any_rdata.specs.Readers.{remaining_octets, in_hand};
 
     /// Returns a reader of all octets of the data.
+    #[tactic(auto, using(crate::proofs::Cutting::all_remain))]
     pub(crate) fn new(rdata: &Rdata<'m>, lowercase: bool) -> OctetReader<'m>
         ensures { remaining_octets result ≡ parts_octets lowercase (rdata_parts rdata.now) }
     {
@@ -49,6 +49,7 @@ impl<'m> OctetReader<'m> {
     }
 
     /// Skips the first `n` octets in hand.
+    #[tactic(auto, using(crate::proofs::Cutting::name_has, crate::proofs::Cutting::octets_have, crate::proofs::Cutting::name_skipped, crate::proofs::Cutting::octets_skipped))]
     pub(crate) fn skip(&mut self, n: usize)
         requires { n ≤ length (in_hand self.old) }
         ensures { remaining_octets self.new ≡ drop n (remaining_octets self.old) }
@@ -61,6 +62,7 @@ impl<'m> OctetReader<'m> {
     }
 
     /// Reads fields until octets are in hand. Returns `false` exactly if no octet remains.
+    #[tactic(auto, using(crate::proofs::Cutting::field_taken, crate::proofs::Cutting::nothing_remains, crate::proofs::Cutting::none_of, crate::proofs::Named::part_taken, crate::proofs::Named::octets_part, crate::proofs::Named::none_left))]
     pub(crate) fn fill(&mut self) -> bool
         ensures same { remaining_octets self.new ≡ remaining_octets self.old }
         ensures some { IsTrue result → 0 < length (in_hand self.new) }
