@@ -1,20 +1,27 @@
 -- The text of data, field by field.
 use Rattle.std.proofs.Common.{◌≡◌, ◌∙◌, ℕ, Bool, true, false, List, [], ◌∷◌, ◌++◌, drop, Option, None, Some, refl, sym, ap, subst, append_assoc, append-nil}
-use Rattle.std.specs.Prelude.{is_some}
+use Rattle.std.specs.Prelude.{is_some, option_map, slice_range}
 use Rattle.std.proofs.lemmas.Bool.{false≢true}
 use Rattle.std.proofs.lemmas.Grind.{put_two}
 use Rattle.std.specs.Fmt.{HasWritten}
 use Rattle.std.specs.declared.fmt.Formatter.{Formatter}
-use Rattle.domain_descriptor.specs.Rdatas.{rdata_begin, IsRdata}
+use Rattle.domain_descriptor.specs.Rdatas.{rdata_begin, field_kind, field_message, field_begin, field_after, IsRdata}
 use Rattle.domain_descriptor.specs.Table.{known_fields}
 use Rattle.domain_descriptor.specs.declared.kind.FieldKind.{FieldKind}
+use Rattle.domain_descriptor.specs.declared.kind.FieldKind.TheVariants as kinds
+use Rattle.domain_descriptor.specs.declared.rdata.Field.{Field}
 use Rattle.domain_descriptor.specs.declared.rdata.Rdata.{Rdata}
+use Rattle.domain_field_text.specs.FieldTexts.{lead, field_octets_text}
+use Rattle.domain_field_text.specs.Held.{held_text, HasFieldText}
+use Rattle.domain_field_text.specs.Names.{zone_name}
+use Rattle.domain_field_text.specs.declared.field.FieldText.{FieldText}
 use Rattle.domain_fields.specs.Parts.{Part}
+use Rattle.domain_reading.specs.Grammar.{Names}
 use Rattle.domain_list.specs.Moving.{HasMoved}
 use Rattle.domain_rdata.specs.AnyData.{unknown_text}
-use Rattle.domain_any_rdata.proofs.Named.{parts_of_data}
-use Rattle.domain_any_rdata.specs.Parts.{parts_at, raw_octets, rdata_parts}
-use Rattle.domain_any_rdata.specs.Texts.{part_text, both_texts, text_or_nothing, parts_text, text_or_octets, fields_text, rdata_text, shown_data}
+use Rattle.domain_any_rdata.proofs.Named.{parts_of_data, named_part, octets_part}
+use Rattle.domain_any_rdata.specs.Parts.{parts_at, part_of, raw_octets, rdata_parts}
+use Rattle.domain_any_rdata.specs.Texts.{part_text, IsTold, both_texts, text_or_nothing, parts_text, text_or_octets, fields_text, rdata_text, shown_data}
 
 -- the remaining fields, where one was taken
 one_taken : (b : Bool) (ks rest : List FieldKind) (k : FieldKind) (xs others : List Part) (x : Part) → ks ≡ k ∷ rest → xs ≡ x ∷ others
@@ -39,14 +46,14 @@ pub Decides : Option (List ℕ) → List FieldKind → List Part → Type 0
 Decides all ks xs = (b : Bool) × (is_some all ≡ is_some (parts_text b ks xs))
 
 pub decides_more : (all : Option (List ℕ)) (ks rest : List FieldKind) (k : FieldKind) (xs others : List Part) (x : Part) → Decides all ks xs → ks ≡ k ∷ rest → xs ≡ x ∷ others
-    → ((b : Bool) → true ≡ is_some (part_text b k x)) → Decides all rest others
-decides_more all ks rest k xs others x (b, still) kinds parts told =
-    (false, still ∙ (ap is_some (one_taken b ks rest k xs others x kinds parts) ∙ has_both (part_text b k x) (parts_text false rest others) (sym (told b))))
+    → (t : Bool) → IsTold k x t → t ≡ true → Decides all rest others
+decides_more all ks rest k xs others x (b, still) kinds parts t told yes =
+    (false, still ∙ (ap is_some (one_taken b ks rest k xs others x kinds parts) ∙ has_both (part_text b k x) (parts_text false rest others) (told b ∙ yes)))
 
 pub decides_not : (all : Option (List ℕ)) (ks rest : List FieldKind) (k : FieldKind) (xs others : List Part) (x : Part) → Decides all ks xs → ks ≡ k ∷ rest → xs ≡ x ∷ others
-    → ((b : Bool) → false ≡ is_some (part_text b k x)) → false ≡ is_some all
-decides_not all ks rest k xs others x (b, still) kinds parts told =
-    sym (still ∙ (ap is_some (one_taken b ks rest k xs others x kinds parts) ∙ lacks_first (part_text b k x) (parts_text false rest others) (sym (told b))))
+    → (t : Bool) → IsTold k x t → t ≡ false → false ≡ is_some all
+decides_not all ks rest k xs others x (b, still) kinds parts t told no =
+    sym (still ∙ (ap is_some (one_taken b ks rest k xs others x kinds parts) ∙ lacks_first (part_text b k x) (parts_text false rest others) (told b ∙ no)))
 
 pub decides_all : (all : Option (List ℕ)) (ks : List FieldKind) (xs : List Part) → Decides all ks xs → ks ≡ [] → true ≡ is_some all
 decides_all all ks xs (b, still) none = sym (still ∙ ap is_some (none_taken b ks xs none))
@@ -106,6 +113,37 @@ told_first took f all ks xs others told kinds parts nothing =
 pub untold : (all : Option (List ℕ)) (octets : List ℕ) → is_some all ≡ false → unknown_text octets ≡ text_or_octets all octets
 untold None octets told = refl
 untold (Some t) octets told = absurd (false≢true (sym told))
+
+-- ---- one field
+kept : {A : Type 0} (make : A → List ℕ) (held : Option A) → is_some (option_map make held) ≡ is_some held
+kept make None = refl
+kept make (Some it) = refl
+
+-- the text of a name, and of a field that is none, as `Field::name` and `Field::octets` return them
+named_text : (f : Field) (ls : List (List ℕ)) (first : Bool) → field_kind f ≡ kinds.Name → Names 255 (field_message f) (field_begin f) ls → part_text first (field_kind f) (part_of f) ≡ Some (lead first ++ zone_name ls)
+named_text f ls first is named = ap (part_text first (field_kind f)) (named_part f ls is named)
+
+held_by : (f : Field) (held : Option FieldText) (first : Bool) → (field_kind f ≡ kinds.Name → ⊥)
+    → HasFieldText held (λ b. field_octets_text b (field_kind f) (slice_range (field_message f) (field_begin f) (field_after f))) → part_text first (field_kind f) (part_of f) ≡ option_map (held_text first) held
+held_by f held first other has = ap (part_text first (field_kind f)) (octets_part f other) ∙ sym (has first)
+
+pub name_told : (f : Field) (ls : List (List ℕ)) → field_kind f ≡ kinds.Name → Names 255 (field_message f) (field_begin f) ls → IsTold (field_kind f) (part_of f) true
+name_told f ls is named first = ap is_some (named_text f ls first is named)
+
+pub octets_told : (f : Field) (held : Option FieldText) → (field_kind f ≡ kinds.Name → ⊥)
+    → HasFieldText held (λ b. field_octets_text b (field_kind f) (slice_range (field_message f) (field_begin f) (field_after f))) → IsTold (field_kind f) (part_of f) (is_some held)
+octets_told f held other has first = ap is_some (held_by f held first other has) ∙ kept (held_text first) held
+
+pub name_shown : (f : Field) (ls : List (List ℕ)) (first : Bool) → field_kind f ≡ kinds.Name → Names 255 (field_message f) (field_begin f) ls → lead first ++ zone_name ls ≡ text_or_nothing (part_text first (field_kind f) (part_of f))
+name_shown f ls first is named = ap text_or_nothing (sym (named_text f ls first is named))
+
+pub held_shown : (f : Field) (held : FieldText) (first : Bool) → (field_kind f ≡ kinds.Name → ⊥)
+    → HasFieldText (Some held) (λ b. field_octets_text b (field_kind f) (slice_range (field_message f) (field_begin f) (field_after f))) → held_text first held ≡ text_or_nothing (part_text first (field_kind f) (part_of f))
+held_shown f held first other has = ap text_or_nothing (sym (held_by f (Some held) first other has))
+
+pub nothing_shown : (f : Field) (first : Bool) → (field_kind f ≡ kinds.Name → ⊥)
+    → HasFieldText None (λ b. field_octets_text b (field_kind f) (slice_range (field_message f) (field_begin f) (field_after f))) → [] ≡ text_or_nothing (part_text first (field_kind f) (part_of f))
+nothing_shown f first other has = ap text_or_nothing (sym (held_by f None first other has))
 
 -- ---- the text of data that was read is that of the octets
 pub told_data : (rtype class : ℕ) (m : List ℕ) (p : ℕ) (it : Rdata) → IsRdata rtype class m p it → rdata_text it ≡ shown_data rtype class m p

@@ -1,6 +1,6 @@
 -- The text of record data: its fields by the table of types, with a space between two words (RFC 1035, 5.1), or its
 -- octets in the form for unknown types (RFC 3597, 5).
-use Rattle.std.specs.Prelude.{ℕ, Bool, true, false, List, [], ◌∷◌, ◌++◌, drop, Option, Some, None}
+use Rattle.std.specs.Prelude.{◌≡◌, ℕ, is_some, Bool, true, false, List, [], ◌∷◌, ◌++◌, drop, Option, Some, None}
 use Rattle.domain_descriptor.specs.Rdatas.{rdata_kinds}
 use Rattle.domain_descriptor.specs.Table.{known_fields}
 use Rattle.domain_descriptor.specs.declared.kind.FieldKind.{FieldKind}
@@ -16,6 +16,10 @@ use Rattle.domain_any_rdata.specs.Parts.{parts_at, raw_octets, rdata_parts}
 abbrev pub part_text : Bool → FieldKind → Part → Option (List ℕ)
 part_text first kind (a_name ls) = Some (lead first ++ zone_name ls)
 part_text first kind (no_name octets) = field_octets_text first kind octets
+
+-- Whether the field has a text, first or not.
+abbrev pub IsTold : FieldKind → Part → Bool → Type 0
+IsTold kind part told = (first : Bool) → is_some (part_text first kind part) ≡ told
 
 -- a text before another, if there are both
 abbrev pub both_texts : Option (List ℕ) → Option (List ℕ) → Option (List ℕ)

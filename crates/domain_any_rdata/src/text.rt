@@ -2,7 +2,7 @@
 ghost use Rattle.std.specs.Prelude.{◌≡◌, Some, is_some};
 ghost use Rattle.domain_any_rdata.specs.Parts.{part_of, rdata_parts};
 ghost use Rattle.domain_any_rdata.specs.AllData.{data_of};
-ghost use Rattle.domain_any_rdata.specs.Texts.{part_text, parts_text, text_or_nothing, rdata_text};
+ghost use Rattle.domain_any_rdata.specs.Texts.{part_text, IsTold, parts_text, text_or_nothing, rdata_text};
 ghost use Rattle.domain_descriptor.specs.Rdatas.{field_kind, rdata_kinds};
 
 use crate::all::AllRecordData;
@@ -11,8 +11,9 @@ use domain_field_text::{FieldText, Lead, Shown, UnknownText, ZoneName};
 use std::fmt;
 
 /// Whether a field has a text of its own.
+#[tactic(auto, using(crate::proofs::Telling::name_told, crate::proofs::Telling::octets_told))]
 fn has_text(field: &Field<'_>) -> bool
-    ensures { (first : Bool) → result ≡ is_some (part_text first (field_kind field.now) (part_of field.now)) }
+    ensures { IsTold (field_kind field.now) (part_of field.now) result }
 {
     match field.name() {
         Some(_) => true,
@@ -21,6 +22,7 @@ fn has_text(field: &Field<'_>) -> bool
 }
 
 /// Whether each field has a text of its own.
+#[tactic(auto, using(crate::proofs::Named::all_left, crate::proofs::Named::part_taken, crate::proofs::Telling::decides_not, crate::proofs::Telling::decides_all))]
 fn have_text(rdata: &Rdata<'_>) -> bool
     ensures { result ≡ is_some (parts_text true (rdata_kinds rdata.now) (rdata_parts rdata.now)) }
 {
@@ -44,6 +46,7 @@ struct ShownField<'m> {
 impl<'m> fmt::Display for ShownField<'m> {
     ghost output = { λ it. Some (text_or_nothing (part_text it.first (field_kind it.field) (part_of it.field))) };
 
+    #[tactic(auto, using(crate::proofs::Telling::name_shown, crate::proofs::Telling::held_shown, crate::proofs::Telling::nothing_shown))]
     fn fmt<W: fmt::Write>(&self, f: &mut fmt::Formatter<W>) -> fmt::Result {
         let first = self.first;
         let lead = Lead { first };
@@ -63,6 +66,7 @@ impl<'m> fmt::Display for ShownField<'m> {
 impl<'m> fmt::Display for AllRecordData<'m> {
     ghost output = { λ it. Some (rdata_text (data_of it)) };
 
+    #[tactic(auto, using(crate::proofs::Named::all_left, crate::proofs::Telling::told_first, crate::proofs::Telling::told_all, crate::proofs::Telling::untold))]
     fn fmt<W: fmt::Write>(&self, f: &mut fmt::Formatter<W>) -> fmt::Result {
         let rdata = self.rdata();
         if !have_text(&rdata) {

@@ -1,6 +1,5 @@
-use Rattle.std.proofs.Common.{◌∙◌, sym}
 use Rattle.domain_any_rdata.proofs.Named.{all_left, part_taken}
-use Rattle.domain_any_rdata.proofs.Telling.{decides_more, decides_not, decides_all, decides_first}
+use Rattle.domain_any_rdata.proofs.Telling.{decides_more, decides_first}
 use Rattle.domain_any_rdata.proofs.text.have_text.Goals as goal
 
 pub field-init : goal.field-init
@@ -9,4 +8,4 @@ field-init c = decides_first _ _ _ _ c.fields.ensures.kinds (all_left _ c.fields
 pub field-preserved : goal.field-preserved
 field-preserved c =
     let taken = part_taken c.field.fields c.in-Some.field c.next.new.self c.in-Some.ensures.steps in
-    decides_more _ _ _ _ _ _ _ c.field.invariant c.in-Some.ensures.steps.kinds taken (λ b. sym c.if-has_text.true ∙ c.has_text.ensures b)
+    decides_more _ _ _ _ _ _ _ c.field.invariant c.in-Some.ensures.steps.kinds taken c.has_text.result c.has_text.ensures c.if-has_text.true
