@@ -44,7 +44,8 @@ struct ShownField<'m> {
 }
 
 impl<'m> fmt::Display for ShownField<'m> {
-    ghost output = { λ it. Some (text_or_nothing (part_text it.first (field_kind it.field) (part_of it.field))) };
+    ghost output = { λ it.
+        Some (text_or_nothing (part_text it.first (field_kind it.field) (part_of it.field))) };
 
     #[tactic(auto, using(crate::proofs::Telling::name_shown, crate::proofs::Telling::held_shown, crate::proofs::Telling::nothing_shown))]
     fn fmt<W: fmt::Write>(&self, f: &mut fmt::Formatter<W>) -> fmt::Result {

@@ -112,7 +112,8 @@ fn number_held(octets: &[u8]) -> Option<FieldText<'_>>
 
 /// A time.
 fn time_held(octets: &[u8]) -> Option<FieldText<'_>>
-    ensures { HasFieldText result (λ first. led first (option_map time_text (number_of octets.now))) }
+    ensures { HasFieldText result
+        (λ first. led first (option_map time_text (number_of octets.now))) }
 {
     match number_of(octets) {
         Some(seconds) => Some(FieldText::Time(TimeField { seconds })),
@@ -122,7 +123,8 @@ fn time_held(octets: &[u8]) -> Option<FieldText<'_>>
 
 /// A type of records.
 fn rtype_held(octets: &[u8]) -> Option<FieldText<'_>>
-    ensures { HasFieldText result (λ first. led first (option_map rtype_text (rtype_of octets.now))) }
+    ensures { HasFieldText result
+        (λ first. led first (option_map rtype_text (rtype_of octets.now))) }
 {
     match rtype_of(octets) {
         Some(number) => {
@@ -135,7 +137,8 @@ fn rtype_held(octets: &[u8]) -> Option<FieldText<'_>>
 
 /// An IPv4 address.
 fn ipv4_held(octets: &[u8]) -> Option<FieldText<'_>>
-    ensures { HasFieldText result (λ first. led first (option_map ipv4_text (of_size 4 octets.now))) }
+    ensures { HasFieldText result
+        (λ first. led first (option_map ipv4_text (of_size 4 octets.now))) }
 {
     let [a, b, c, d] = octets else {
         return None;
@@ -171,7 +174,8 @@ fn quoted_held(octets: &[u8]) -> Option<FieldText<'_>>
 
 /// A character string.
 fn string_held(octets: &[u8]) -> Option<FieldText<'_>>
-    ensures { HasFieldText result (λ first. led first (option_map quoted (behind_count octets.now))) }
+    ensures { HasFieldText result
+        (λ first. led first (option_map quoted (behind_count octets.now))) }
 {
     match behind_count(octets) {
         Some(string) => quoted_held(string),
@@ -284,7 +288,8 @@ fn bitmaps_of(octets: &[u8]) -> Option<TypeBitmaps<&[u8]>>
 
 /// Types, one or more.
 fn types_held(octets: &[u8]) -> Option<FieldText<'_>>
-    ensures { HasFieldText result (λ first. led first (some_text types_text (types_of octets.now))) }
+    ensures { HasFieldText result
+        (λ first. led first (some_text types_text (types_of octets.now))) }
 {
     if octets.is_empty() {
         return None;
