@@ -42,7 +42,7 @@ lacks_first None b told = refl
 lacks_first (Some s) b told = absurd (false≢true (sym told))
 
 -- The remaining ones, of which the next is the first of data or isn't, decide.
-pub Decides : Option (List ℕ) → List FieldKind → List Part → Type 0
+abbrev pub Decides : Option (List ℕ) → List FieldKind → List Part → Type 0
 Decides all ks xs = (b : Bool) × (is_some all ≡ is_some (parts_text b ks xs))
 
 pub decides_more : (all : Option (List ℕ)) (ks rest : List FieldKind) (k : FieldKind) (xs others : List Part) (x : Part) → Decides all ks xs → ks ≡ k ∷ rest → xs ≡ x ∷ others

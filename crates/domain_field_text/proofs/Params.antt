@@ -1,5 +1,5 @@
 -- The service parameters that octets are, as a function of the octets.
-use Rattle.std.proofs.Common.{◌≡◌, ℕ, zero, suc, ◌+◌, ◌*◌, ◌/◌, ◌%◌, ◌<◌, ◌≤◌, List, [], ◌∷◌, ◌++◌, length, take, drop, refl, arith, ap, sym, ◌∙◌, append_assoc, length-append, Option, None, Some, if◌then◌else◌}
+use Rattle.std.proofs.Common.{◌≡◌, ℕ, zero, suc, ◌+◌, ◌*◌, ◌/◌, ◌%◌, ◌<◌, ◌≤◌, List, [], ◌∷◌, ◌++◌, length, take, drop, refl, arith, rules, ap, sym, ◌∙◌, append_assoc, length-append, Option, None, Some, if◌then◌else◌}
 use Rattle.std.specs.Prelude.{nat_le, slice_index}
 use Rattle.std.proofs.Math.Seq.{take-append_seam, drop-append_seam}
 use Rattle.std.proofs.lemmas.Bool.{le-leb, lt-leb}
@@ -29,11 +29,14 @@ params_found (suc n) least [] are many = refl
 params_found (suc n) least (p ∷ ps) are many =
     one_param n least p (params_octets ps) are.0.0 ∙ ap (with_param p) (params_found n (p.0 + 1) ps are.1 (omega (arith, many)))
 
+none_some : {A : Type 0} {x : A} → None ≡ Some x → ⊥
+none_some e = search rules
+
 -- and none are where something is wrong after some
 params_stop : (n least : ℕ) (ps : List (ℕ × List ℕ)) (rest : List ℕ) (why : SvcParamsError) → AreParams least ps → param_fault (next_key least ps) rest ≡ Some why
     → params_from n least (params_octets ps ++ rest) ≡ None
 params_stop zero least ps rest why are wrong = refl
-params_stop (suc n) least [] [] why are wrong = cc
+params_stop (suc n) least [] [] why are wrong = absurd (none_some wrong)
 params_stop (suc n) least [] (c ∷ rest) why are wrong = ap (next_param (params_from n) (c ∷ rest)) wrong
 params_stop (suc n) least (p ∷ ps) rest why are wrong =
     ap (λ x. params_from (suc n) least (p.0 / 256 ∷ p.0 % 256 ∷ length p.1 / 256 ∷ length p.1 % 256 ∷ x)) (append_assoc p.1 (params_octets ps) rest)

@@ -1,5 +1,5 @@
 -- The line of a record, by what was read of its data.
-use Rattle.std.proofs.Common.{◌≡◌, ◌∙◌, ℕ, List, ap, sym, subst}
+use Rattle.std.proofs.Common.{◌≡◌, ◌∙◌, ℕ, List, refl, ap, subst}
 use Rattle.domain_wire.specs.declared.error.ParseError.{ParseError}
 use Rattle.domain_descriptor.specs.Fields.{AreData}
 use Rattle.domain_descriptor.specs.Rdatas.{IsRdata}
@@ -28,4 +28,4 @@ unread_line it m p why octets start data_due none =
     let t = it.header.rtype in
     let k = it.header.class in
     let here : HasNoData it why = subst (λ x. NoDataAt t k it.octets x why) start (subst (λ x. NoDataAt t k x p why) octets none) in
-    unread why data_due here (λ i. unread_text it why)
+    unread why data_due here refl
