@@ -109,9 +109,9 @@ pub mod message {
 pub mod message_builder {
     pub use domain_message_builder::{
         AdditionalBuilder, AdditionalSection, AnswerBuilder, AnswerSection, AuthorityBuilder,
-        AuthoritySection, MarkedBuilder, MessageBuilder, OptBuilder, PushError, QuestionBuilder,
-        RecordBuilder, RecordSection, SectionError, StartError, builder_laws,
-        pushed_data_reads_back,
+        AuthoritySection, MarkedBuilder, MessageBuilder, OptBuilder, PushError, PushOptionError,
+        QuestionBuilder, RecordBuilder, RecordSection, SectionError, StartError, builder_laws,
+        option_laws, pushed_data_reads_back,
     };
 }
 
@@ -126,7 +126,7 @@ pub mod stream {
 pub mod opt {
     pub use domain_message::{
         ClientSubnet, Cookie, EdnsOption, ExtendedError, Nsid, OptData, OptError, OptIter,
-        OptRecord, opt_of,
+        OptRecord, Padding, TcpKeepalive, opt_of,
     };
 }
 

@@ -3,6 +3,7 @@ pub mod Comparing
 pub mod ComposingRecords
 pub mod DataStanding
 pub mod FindingOpt
+pub mod NamedOptions
 pub mod Names
 pub mod OneList
 pub mod Sections

@@ -7,6 +7,7 @@ pub mod Composing
 pub mod Entries
 pub mod EntryLaws
 pub mod EntryViews
+pub mod FirstOptions
 pub mod HeaderLaws
 pub mod Kept
 pub mod KnownOptions
@@ -36,3 +37,4 @@ pub mod Sole
 pub mod Targets
 pub mod TextViews
 pub mod Texts
+pub mod TransportOptions

@@ -10,12 +10,15 @@ pub mod kept;
 pub mod known_options;
 pub mod laws;
 pub mod message;
+mod named_options;
+pub mod option_codes;
 pub mod passes;
 pub mod question;
 pub mod record;
 pub mod resource_record;
 pub mod rtype_text;
 pub mod section;
+pub mod transport_options;
 
 pub use domain_header::{
     Class, Header, HeaderCounts, HeaderSection, Opcode, Rcode, ShortMessage, Ttl,
@@ -33,3 +36,4 @@ pub use record::{ParsedRecord, RecordHeader};
 pub use resource_record::Record;
 pub use rtype_text::{RtypeText, rtype_from_mnemonic, rtype_from_text, rtype_mnemonic};
 pub use section::{QuestionSection, RecordSection, Section};
+pub use transport_options::{Padding, TcpKeepalive};

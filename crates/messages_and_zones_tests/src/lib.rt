@@ -24,6 +24,8 @@ mod names;
 #[cfg(test)]
 mod numbers;
 #[cfg(test)]
+mod options;
+#[cfg(test)]
 mod record_types;
 #[cfg(test)]
 mod records;
