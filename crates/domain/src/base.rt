@@ -130,6 +130,11 @@ pub mod opt {
     };
 }
 
+/// TSIG and SIG(0) records that are read (RFC 8945; RFC 2931).
+pub mod tsig {
+    pub use domain_message::{Sig0, Tsig, TsigData, TsigError, sig0_of, tsig_of};
+}
+
 /// Questions (RFC 1035, 4.1.2).
 pub mod question {
     pub use domain_message::Question;

@@ -12,6 +12,7 @@ pub mod HeaderLaws
 pub mod Kept
 pub mod KnownOptions
 pub mod KnownViews
+pub mod LastRecords
 pub mod LeftToTarget
 pub mod MayCompose
 pub mod Members
@@ -38,3 +39,5 @@ pub mod Targets
 pub mod TextViews
 pub mod Texts
 pub mod TransportOptions
+pub mod TsigFields
+pub mod TsigRecords

@@ -84,6 +84,10 @@ pub mod opt {
     };
 }
 
+pub mod tsig {
+    pub use domain::base::tsig::{Sig0, Tsig, TsigData, TsigError, sig0_of, tsig_of};
+}
+
 pub mod question {
     pub use domain::base::question::Question;
 }

@@ -34,6 +34,8 @@ mod refused;
 #[cfg(test)]
 mod rrsets;
 #[cfg(test)]
+mod signed;
+#[cfg(test)]
 mod zone_faults;
 #[cfg(test)]
 mod zone_merging;
