@@ -1,4 +1,5 @@
-//! TSIG and SIG(0) records: octets as the standards draw them (RFC 8945, 4.2; RFC 2535, 4.1).
+//! TSIG and SIG(0) records: octets as the standards draw them (RFC 8945, 4.2; RFC 2535, 4.1). Answers that repeat the
+//! case of their question, and others.
 
 use crate::messages::joined;
 use domain_message::{Message, Sig0, TsigError, sig0_of, tsig_of};
@@ -85,4 +86,23 @@ fn a_sig0_record_and_its_fields(rt: HostRuntime) {
     assert!(rt; sig.key_tag == 7);
     assert!(rt; sig.signer.as_slice() == b"\x01s\0".as_slice());
     assert!(rt; sig.signature == [0xee].as_slice());
+}
+
+/// A response whose question has another case answers the query, and not where the spelling counts.
+#[test]
+fn answers_and_the_case_of_the_question(rt: HostRuntime) {
+    let asked = [0, 7, 0, 0, 0, 1, 0, 0, 0, 0, 0, 0, 1, b'a', 0, 0, 1, 0, 1];
+    let same = [
+        0, 7, 0x80, 0, 0, 1, 0, 0, 0, 0, 0, 0, 1, b'a', 0, 0, 1, 0, 1,
+    ];
+    let other = [
+        0, 7, 0x80, 0, 0, 1, 0, 0, 0, 0, 0, 0, 1, b'A', 0, 0, 1, 0, 1,
+    ];
+    let query = made(&rt, asked.as_slice());
+    let same = made(&rt, same.as_slice());
+    let other = made(&rt, other.as_slice());
+    assert!(rt; same.is_answer(&query));
+    assert!(rt; other.is_answer(&query));
+    assert!(rt; same.is_spelled_answer(&query));
+    assert!(rt; !other.is_spelled_answer(&query));
 }
