@@ -92,20 +92,20 @@ last_of z n (x ∷ xs) sub = elim (dec_good z n x (sub x (here x xs))) [
 
 -- ---- of a zone
 
+last_up : (z : Zone) (n o p : Names) → IsInChain z p → UpTo p n → ((r : RRset) → Contains z.rrsets r → IsGood z n r → UpTo r.owner o) → UpTo p o
+last_up z n o p k u h =
+    let r = k.0.0 in
+    let e = k.0.2 in
+    let up : UpTo r.owner n = λ g. u (sym (same_left r.owner p n e) ∙ g) in
+    let last : UpTo r.owner o = h r k.0.1 (in_chain_same z p r.owner (sym e) k, up) in
+    λ g. last (same_left r.owner p o e ∙ g)
+
 pub some_last : (z : Zone) → IsZone z → (n : Names) → EndsWith n z.apex → (o : Names) × IsLastUpTo z n o
 some_last z w n i = elim (last_of z n z.rrsets (λ s c. c)) [
   | inl h ↦
-      let o = h.0.owner in (
-        o,
-        h.1.1.0,
-        h.1.1.1,
-        λ p k u.
-            let r = k.0.0 in
-            let e = k.0.2 in
-            let up : UpTo r.owner n = λ g. u (sym (same_left r.owner p n e) ∙ g) in
-            let last : UpTo r.owner o = h.1.2 r k.0.1 (in_chain_same z p r.owner (sym e) k, up) in
-            λ g. last (same_left r.owner p o e ∙ g),
-      )
+      let o = h.0.owner in
+      let up = λ (p : Names) (k : IsInChain z p) (u : UpTo p n). last_up z n o p k u h.1.2 in
+      (o, (h.1.1.0, h.1.1.1, up))
   | inr none ↦
       let s = w.soa.0 in
       let e = w.soa.1.1 in

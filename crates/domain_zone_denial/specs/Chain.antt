@@ -1,6 +1,6 @@
 -- A chain of NSEC records, and what a validator concludes from such records by their owners and their next names (RFC
 -- 4034, 4.1.1; RFC 4035, 5.4; RFC 6840, 4.1).
-use Rattle.std.specs.Prelude.{◌≡◌, ◌≢◌, ℕ, ◌≤◌, List, [], ◌∷◌, ◌++◌, ◌⊎◌, ⊤}
+use Rattle.std.specs.Prelude.{◌≡◌, ◌≢◌, ℕ, List, [], ◌∷◌, ◌++◌, ◌⊎◌, ⊤}
 use Rattle.std.specs.List.{Contains}
 use Rattle.std.specs.declared.cmp.Ordering.TheVariants.{Less}
 use Rattle.domain_label.specs.Wire.{wire, IsAbsoluteName}
