@@ -14,14 +14,14 @@ use Rattle.domain_zone_denial.proofs.Covering.{closes, covers_of, next_below}
 use Rattle.domain_zone_denial.proofs.Lasting.{some_nsec}
 use Rattle.domain_zone_denial.proofs.Ordering.{Names}
 use Rattle.domain_zone_denial.proofs.Plain.{IsPlain, plain_missing, plain_empty, chain_found, plain_above, plain_source, chain_source}
-use Rattle.domain_zone_denial.specs.Chain.{IsChain, ShowsNoName, ShowsTypes, SomeShowsNoName, SomeShowsTypes, ConvincesAt, ConvincesBeside, Convinces}
+use Rattle.domain_zone_denial.specs.Chain.{HasNsecChain, ShowsNoName, ShowsTypes, SomeShowsNoName, SomeShowsTypes, ConvincesAt, ConvincesBeside, Convinces}
 use Rattle.domain_zone_denial.specs.Denial.{IsInChain, IsNsecFor, AreNsecFor, AreOnce, AreNsecsFor, AreAt, AreOfCut, DeniesAt, DeniesBeside}
-use Rattle.domain_zone_denial.specs.Laws.{IsConvincing}
+use Rattle.domain_zone_denial.specs.Laws.{DenialConvinces}
 
 only : (s : RRset) (xs : List RRset) → xs ≡ s ∷ [] → Contains xs s
 only s xs e = subst (λ ys. Contains ys s) (sym e) (0, omega arith, refl)
 
-module _ (z : Zone) (w : IsZone z) (ch : IsChain z) where
+module _ (z : Zone) (w : IsZone z) (ch : HasNsecChain z) where
   -- ---- what one shows
 
   shows_no_name : (n : Names) (s : RRset) → EndsWith n z.apex → IsPlain z n → (Exists z n → ⊥) → IsNsecFor z n s → ShowsNoName z s n
@@ -145,7 +145,7 @@ module _ (z : Zone) (w : IsZone z) (ch : IsChain z) where
   source_moved : (q e f : Names) → IsClosestEncloser z q e → IsClosestEncloser z q f → Exists z (source_of_synthesis e) → Exists z (source_of_synthesis f)
   source_moved q e f h k x = exists_same z (source_of_synthesis e) (source_of_synthesis f) (source_same e f (one_encloser z q e f h k)) x
 
-pub convincing : IsConvincing
+pub convincing : DenialConvinces
 convincing z q t out_of_zone xs w ch a h = tt
 convincing z q t (referral s) xs w ch a h = of_cut z w ch q t s xs a h
 convincing z q t (found r) xs w ch a h = of_found z w ch q t r xs a.0 a.1 h

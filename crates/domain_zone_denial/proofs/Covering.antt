@@ -8,18 +8,18 @@ use Rattle.domain_zone_laws.proofs.Ending.{ends_same}
 use Rattle.domain_zone_laws.proofs.Nodes.{cut_same, first_cut}
 use Rattle.domain_zone_denial.proofs.Chaining.{owner_inside, in_chain_same, first_in_chain, chain_below}
 use Rattle.domain_zone_denial.proofs.Ordering.{Names, UpTo, IsBefore, before_or_not, before_up_to, not_both, not_less, same_up_to, itself_up_to, up_to_after, before_then_up_to, before_if_not_same, above_up_to, between_below}
-use Rattle.domain_zone_denial.specs.Chain.{IsChain, IsNextName, IsNext, Covers, IsAncestorDelegation, ShowsNoRecords, ShowsNoName}
+use Rattle.domain_zone_denial.specs.Chain.{HasNsecChain, IsNextName, IsNext, Covers, IsAncestorDelegation, ShowsNoRecords, ShowsNoName}
 use Rattle.domain_zone_denial.specs.Denial.{IsInChain, IsLastUpTo, IsNsecFor}
-use Rattle.domain_zone_denial.specs.Laws.{CoversByFields, IsSound}
+use Rattle.domain_zone_denial.specs.Laws.{CoversByFields, ShownIsSo}
 
 -- m is the next after o, or the apex after the last
-abbrev Follows : Zone → Names → Names → Type 0
+abbrev pub Follows : Zone → Names → Names → Type 0
 Follows z o m =
     (IsBefore o m × ((p : Names) → IsInChain z p → IsBefore o p → IsBefore p m → ⊥))
     ⊎ (SameLabels m z.apex × ((p : Names) → IsInChain z p → IsBefore o p → ⊥))
 
 -- n is before m, or m is the apex
-abbrev Closes : Zone → Names → Names → Type 0
+abbrev pub Closes : Zone → Names → Names → Type 0
 Closes z n m = IsBefore n m ⊎ SameLabels m z.apex
 
 -- ---- from the place
@@ -32,7 +32,7 @@ pub closes : (z : Zone) (n o m : Names) → IsLastUpTo z n o → IsInChain z m �
 closes z n o m h k (inl b) = inl (after_last z n o m h k b.0)
 closes z n o m h k (inr b) = inr b.0
 
-pub covers_of : (z : Zone) (n : Names) (s : RRset) → IsChain z → IsNsecFor z n s → (SameLabels s.owner n → ⊥) → Covers z.apex s n
+pub covers_of : (z : Zone) (n : Names) (s : RRset) → HasNsecChain z → IsNsecFor z n s → (SameLabels s.owner n → ⊥) → Covers z.apex s n
 covers_of z n s ch h apart =
     let next = ch.some_next s h.0.0 h.1 in
     let is = ch.next s next.0 h.0.0 h.1 next.1 in
@@ -61,7 +61,7 @@ next_below z o m n x i l b f k below =
     let r = no_between z o x m n i l f k (before_then_up_to o n x b (above_up_to n x below)) in
     between_below n m x (before_up_to n m r.1) r.0 below
 
-module _ (z : Zone) (n : Names) (s : RRset) (w : IsZone z) (ch : IsChain z) (k : IsInChain z s.owner) (a : IsAt z s.owner NSEC s) where
+module _ (z : Zone) (n : Names) (s : RRset) (w : IsZone z) (ch : HasNsecChain z) (k : IsInChain z s.owner) (a : IsAt z s.owner NSEC s) where
   pub owned_inside : EndsWith s.owner z.apex
   owned_inside = owner_inside z w s.owner k.0
 
@@ -101,5 +101,5 @@ module _ (z : Zone) (n : Names) (s : RRset) (w : IsZone z) (ch : IsChain z) (k :
 pub fields : CoversByFields
 fields z n s w ch i k a = by_fields z n s w ch k a
 
-pub sound : IsSound
+pub sound : ShownIsSo
 sound z n s w ch i k a = (no_records z n s w ch k a, no_name z n s w ch k a)

@@ -10,7 +10,7 @@ use Rattle.domain_zone_laws.proofs.Ending.{ends_same, both_ends}
 use Rattle.domain_zone_laws.proofs.Nodes.{first_cut}
 use Rattle.domain_zone_denial.proofs.Chaining.{in_chain_same, apex_in_chain, no_cut_in_chain, nsec_of_last}
 use Rattle.domain_zone_denial.proofs.Ordering.{Names, UpTo, IsBefore, same_left, up_to_after, before_up_to, itself_up_to, above_up_to, before_or_not, not_both}
-use Rattle.domain_zone_denial.specs.Chain.{IsChain}
+use Rattle.domain_zone_denial.specs.Chain.{HasNsecChain}
 use Rattle.domain_zone_denial.specs.Denial.{IsInChain, IsLastUpTo, IsNsecFor}
 
 -- ---- decisions
@@ -113,7 +113,7 @@ some_last z w n i = elim (last_of z n z.rrsets (λ s c. c)) [
 ]
 
 -- where the NSEC records are a chain, there is one for each name
-pub some_nsec : (z : Zone) → IsZone z → IsChain z → (n : Names) → EndsWith n z.apex → (s : RRset) × IsNsecFor z n s
+pub some_nsec : (z : Zone) → IsZone z → HasNsecChain z → (n : Names) → EndsWith n z.apex → (s : RRset) × IsNsecFor z n s
 some_nsec z w ch n i =
     let h = some_last z w n i in
     let t = ch.each h.0 h.1.0 in

@@ -10,7 +10,7 @@ use Rattle.domain_zone_laws.proofs.Nodes.{one_encloser}
 use Rattle.domain_zone_laws.proofs.Total.{source_same}
 use Rattle.domain_zone_denial.proofs.Chaining.{one_nsec, nsec_same}
 use Rattle.domain_zone_denial.proofs.Ordering.{Names}
-use Rattle.domain_zone_denial.specs.Denial.{IsNsecFor, AreNsecFor, AreOnce, AreNsecsFor, AreAt, AreOfCut, DeniesAt, DeniesBeside, Denies}
+use Rattle.domain_zone_denial.specs.Denial.{IsNsecFor, AreNsecFor, AreOnce, AreNsecsFor, AreAt, AreOfCut, DeniesAt, DeniesBeside, DeniesFor}
 use Rattle.domain_zone_denial.specs.Laws.{HasOneDenial, IsOfZone}
 
 -- ---- one list

@@ -26,7 +26,7 @@ IsNext z n m = IsInChain z m
 
 -- The NSEC records are a chain: each name that should have an NSEC RRset has one, and it leads to the next of these
 -- names. Those of other names, as of glue, don't matter.
-pub record IsChain (z : Zone) : Type 0 where
+pub record HasNsecChain (z : Zone) : Type 0 where
   pub each : (n : List (List ℕ)) → IsInChain z n → HasType z n NSEC
   pub some_next : (s : RRset) → IsInChain z s.owner → IsAt z s.owner NSEC s → (m : List (List ℕ)) × IsNextName s m
   pub next : (s : RRset) (m : List (List ℕ)) → IsInChain z s.owner → IsAt z s.owner NSEC s → IsNextName s m → IsNext z s.owner m

@@ -73,11 +73,11 @@ DeniesBeside z q w no_data xs = AreNsecsFor z q w xs
 -- The RRsets that show what the zone z doesn't have, for the outcome o of a question about q. A name error takes the
 -- NSEC that covers q and the one that covers the source of synthesis (RFC 4035, 3.1.3.2). What a DNAME redirects takes
 -- none.
-abbrev pub Denies : Zone → List (List ℕ) → Outcome → List RRset → Type 0
-Denies z q out_of_zone xs = xs ≡ []
-Denies z q (referral s) xs = AreOfCut z s.owner xs
-Denies z q (found r) xs = DeniesAt z q r xs
-Denies z q (redirect s n) xs = xs ≡ []
-Denies z q (too_long s) xs = xs ≡ []
-Denies z q (synthesized r) xs = (e : List (List ℕ)) × IsClosestEncloser z q e × DeniesBeside z q (source_of_synthesis e) r xs
-Denies z q name_error xs = (e : List (List ℕ)) × IsClosestEncloser z q e × AreNsecsFor z q (source_of_synthesis e) xs
+abbrev pub DeniesFor : Zone → List (List ℕ) → Outcome → List RRset → Type 0
+DeniesFor z q out_of_zone xs = xs ≡ []
+DeniesFor z q (referral s) xs = AreOfCut z s.owner xs
+DeniesFor z q (found r) xs = DeniesAt z q r xs
+DeniesFor z q (redirect s n) xs = xs ≡ []
+DeniesFor z q (too_long s) xs = xs ≡ []
+DeniesFor z q (synthesized r) xs = (e : List (List ℕ)) × IsClosestEncloser z q e × DeniesBeside z q (source_of_synthesis e) r xs
+DeniesFor z q name_error xs = (e : List (List ℕ)) × IsClosestEncloser z q e × AreNsecsFor z q (source_of_synthesis e) xs

@@ -4,18 +4,18 @@ use Rattle.std.specs.List.{Contains}
 use Rattle.domain_list.specs.Ends.{EndsWith}
 use Rattle.domain_zone_laws.specs.Answers.{Outcome, Answers, referral}
 use Rattle.domain_zone_laws.specs.Zone.{Zone, RRset, IsZone, DS, NSEC, IsAt, Exists, OwnsRecords}
-use Rattle.domain_zone_denial.specs.Denial.{IsInChain, IsNsecFor, Denies}
-use Rattle.domain_zone_denial.specs.Chain.{IsChain, Covers, ShowsNoRecords, ShowsNoName, Convinces}
+use Rattle.domain_zone_denial.specs.Denial.{IsInChain, IsNsecFor, DeniesFor}
+use Rattle.domain_zone_denial.specs.Chain.{HasNsecChain, Covers, ShowsNoRecords, ShowsNoName, Convinces}
 
 -- ---- of each zone
 
 -- The RRsets for an outcome are unique.
 abbrev pub HasOneDenial : Type 0
-HasOneDenial = (z : Zone) (q : List (List ℕ)) (o : Outcome) (xs ys : List RRset) → IsZone z → Denies z q o xs → Denies z q o ys → xs ≡ ys
+HasOneDenial = (z : Zone) (q : List (List ℕ)) (o : Outcome) (xs ys : List RRset) → IsZone z → DeniesFor z q o xs → DeniesFor z q o ys → xs ≡ ys
 
 -- They are RRsets of the zone of type NSEC, except for the DS RRset of a referral, and at most two.
 abbrev pub IsOfZone : Type 0
-IsOfZone = (z : Zone) (q : List (List ℕ)) (o : Outcome) (xs : List RRset) → Denies z q o xs →
+IsOfZone = (z : Zone) (q : List (List ℕ)) (o : Outcome) (xs : List RRset) → DeniesFor z q o xs →
     (length xs ≤ 2)
     × ((s : RRset) → Contains xs s → Contains z.rrsets s × ((s.rtype ≡ NSEC) ⊎ ((s.rtype ≡ DS) × ((r : RRset) × (o ≡ referral r)))))
 
@@ -29,15 +29,15 @@ CoversNextCloser = (z : Zone) (q n : List (List ℕ)) (s : RRset) → IsZone z �
 -- The NSEC RRset s of a name in the chain covers n by its owner and its next name exactly if it is the one for n, and
 -- n isn't in the chain.
 abbrev pub CoversByFields : Type 0
-CoversByFields = (z : Zone) (n : List (List ℕ)) (s : RRset) → IsZone z → IsChain z → EndsWith n z.apex → IsInChain z s.owner → IsAt z s.owner NSEC s →
+CoversByFields = (z : Zone) (n : List (List ℕ)) (s : RRset) → IsZone z → HasNsecChain z → EndsWith n z.apex → IsInChain z s.owner → IsAt z s.owner NSEC s →
     ((IsNsecFor z n s × (IsInChain z n → ⊥)) ↔ Covers z.apex s n)
 
 -- What one of them shows is so (RFC 4035, 5.4): a name that should own no records owns none, and one that shouldn't
 -- exist doesn't, so neither does a name below it (RFC 8020, 2).
-abbrev pub IsSound : Type 0
-IsSound = (z : Zone) (n : List (List ℕ)) (s : RRset) → IsZone z → IsChain z → EndsWith n z.apex → IsInChain z s.owner → IsAt z s.owner NSEC s →
+abbrev pub ShownIsSo : Type 0
+ShownIsSo = (z : Zone) (n : List (List ℕ)) (s : RRset) → IsZone z → HasNsecChain z → EndsWith n z.apex → IsInChain z s.owner → IsAt z s.owner NSEC s →
     (ShowsNoRecords z s n → OwnsRecords z n → ⊥) × (ShowsNoName z s n → Exists z n → ⊥)
 
 -- Those for an outcome show it.
-abbrev pub IsConvincing : Type 0
-IsConvincing = (z : Zone) (q : List (List ℕ)) (t : ℕ) (o : Outcome) (xs : List RRset) → IsZone z → IsChain z → Answers z q t o → Denies z q o xs → Convinces z q o xs
+abbrev pub DenialConvinces : Type 0
+DenialConvinces = (z : Zone) (q : List (List ℕ)) (t : ℕ) (o : Outcome) (xs : List RRset) → IsZone z → HasNsecChain z → Answers z q t o → DeniesFor z q o xs → Convinces z q o xs

@@ -9,7 +9,7 @@ ghost use Rattle.domain_zone_laws.specs.Answers.{Answers, found, synthesized};
 ghost use Rattle.domain_zone_laws.specs.Views.{reply_of};
 ghost use Rattle.domain_zone_laws.specs.Zone.{Exists, IsClosestEncloser, source_of_synthesis};
 ghost use Rattle.domain_zone_denial.specs.Denial.{AreOnce, AreNsecFor, AreNsecsFor, AreOfCut};
-ghost use Rattle.domain_zone_denial.specs.Denial.{DeniesAt, Denies};
+ghost use Rattle.domain_zone_denial.specs.Denial.{DeniesAt, DeniesFor};
 ghost use Rattle.domain_zone_denial.specs.Views.{denial_list};
 
 use crate::encloser::closest_encloser;
@@ -121,7 +121,7 @@ fn denial_synthesized<'z>(
 ) -> Denial<'z>
     requires { (t : ℕ) × Answers (zone_view zone.now) (name_labels name.now) t
         (synthesized (reply_of name_labels reply.now)) }
-    ensures { Denies (zone_view zone.now) (name_labels name.now)
+    ensures { DeniesFor (zone_view zone.now) (name_labels name.now)
         (synthesized (reply_of name_labels reply.now)) (denial_list result) }
 {
     match reply {
@@ -138,7 +138,7 @@ fn denial_synthesized<'z>(
 pub fn denial<'z>(zone: &'z Zone, name: &Name<&[u8]>, answer: &Answer<'_>) -> Denial<'z>
     requires { (t : ℕ) × Answers (zone_view zone.now) (name_labels name.now) t
         (outcome_of answer.now) }
-    ensures { Denies (zone_view zone.now) (name_labels name.now) (outcome_of answer.now)
+    ensures { DeniesFor (zone_view zone.now) (name_labels name.now) (outcome_of answer.now)
         (denial_list result) }
 {
     match answer {

@@ -1,6 +1,6 @@
 //! Laws of the definitions, proved as the contracts of calls that do nothing.
 ghost use Rattle.domain_zone_denial.specs.Laws.{HasOneDenial, IsOfZone, CoversNextCloser};
-ghost use Rattle.domain_zone_denial.specs.Laws.{CoversByFields, IsSound, IsConvincing};
+ghost use Rattle.domain_zone_denial.specs.Laws.{CoversByFields, ShownIsSo, DenialConvinces};
 
 /// What holds of each zone, whatever NSEC records it has.
 ///
@@ -19,6 +19,6 @@ pub fn denial_laws()
 /// 4035, 5.4, asks.
 pub fn chain_laws()
     ensures fields { CoversByFields }
-    ensures sound { IsSound }
-    ensures convincing { IsConvincing }
+    ensures sound { ShownIsSo }
+    ensures convincing { DenialConvinces }
 {}
