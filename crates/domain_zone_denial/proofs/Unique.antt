@@ -11,7 +11,7 @@ use Rattle.domain_zone_laws.proofs.Total.{source_same}
 use Rattle.domain_zone_denial.proofs.Chaining.{one_nsec, nsec_same}
 use Rattle.domain_zone_denial.proofs.Ordering.{Names}
 use Rattle.domain_zone_denial.specs.Denial.{IsNsecFor, AreNsecFor, AreOnce, AreNsecsFor, AreAt, AreOfCut, DeniesAt, DeniesBeside, DeniesFor}
-use Rattle.domain_zone_denial.specs.Laws.{HasOneDenial, IsOfZone}
+use Rattle.domain_zone_denial.specs.Laws.{IsOfZone}
 
 -- ---- one list
 
@@ -60,7 +60,7 @@ one_beside z w q m n e any_types xs ys h k = one_for z w q q refl xs ys h k
 one_beside z w q m n e (alias s) xs ys h k = one_for z w q q refl xs ys h k
 one_beside z w q m n e no_data xs ys h k = one_both z w q m n e xs ys h k
 
-pub one_denial : HasOneDenial
+pub one_denial : (z : Zone) (q : Names) (o : Outcome) (xs ys : List RRset) → IsZone z → DeniesFor z q o xs → DeniesFor z q o ys → xs ≡ ys
 one_denial z q out_of_zone xs ys w h k = h ∙ sym k
 one_denial z q (referral s) xs ys w h k = one_of_cut z w s.owner xs ys h k
 one_denial z q (found r) xs ys w h k = one_found z w q r xs ys h k

@@ -1,6 +1,7 @@
 -- What holds of the RRsets that show what a zone doesn't have.
 use Rattle.std.specs.Prelude.{◌≡◌, ℕ, ◌≤◌, List, length, ◌⊎◌, ◌↔◌}
 use Rattle.std.specs.List.{Contains}
+use Rattle.domain_label.specs.Spelling.{JustOne}
 use Rattle.domain_list.specs.Ends.{EndsWith}
 use Rattle.domain_zone_laws.specs.Answers.{Outcome, Answers, referral}
 use Rattle.domain_zone_laws.specs.Zone.{Zone, RRset, IsZone, DS, NSEC, IsAt, Exists, OwnsRecords}
@@ -9,9 +10,9 @@ use Rattle.domain_zone_denial.specs.Chain.{HasNsecChain, Covers, ShowsNoRecords,
 
 -- ---- of each zone
 
--- The RRsets for an outcome are unique.
+-- For each outcome of a question to a zone there are RRsets, and no others.
 abbrev pub HasOneDenial : Type 0
-HasOneDenial = (z : Zone) (q : List (List ℕ)) (o : Outcome) (xs ys : List RRset) → IsZone z → DeniesFor z q o xs → DeniesFor z q o ys → xs ≡ ys
+HasOneDenial = (z : Zone) (q : List (List ℕ)) (t : ℕ) (o : Outcome) → IsZone z → Answers z q t o → JustOne (DeniesFor z q o)
 
 -- They are RRsets of the zone of type NSEC, except for the DS RRset of a referral, and at most two.
 abbrev pub IsOfZone : Type 0

@@ -4,8 +4,8 @@ ghost use Rattle.domain_zone_denial.specs.Laws.{CoversByFields, ShownIsSo, Denia
 
 /// What holds of each zone, whatever NSEC records it has.
 ///
-/// The RRsets for an outcome are unique, and are NSEC RRsets of the zone, or a DS RRset of it. The one that covers a
-/// name covers each name above it that doesn't exist, so also the next closer name.
+/// There are RRsets for each outcome, and no others. They are NSEC RRsets of the zone, or a DS RRset of it. The one
+/// that covers a name covers each name above it that doesn't exist, so also the next closer name.
 pub fn denial_laws()
     ensures one { HasOneDenial }
     ensures of_zone { IsOfZone }
