@@ -31,7 +31,7 @@ pub record HasNsecChain (z : Zone) : Type 0 where
   pub some_next : (s : RRset) → IsInChain z s.owner → IsAt z s.owner NSEC s → (m : List (List ℕ)) × IsNextName s m
   pub next : (s : RRset) (m : List (List ℕ)) → IsInChain z s.owner → IsAt z s.owner NSEC s → IsNextName s m → IsNext z s.owner m
 
--- ---- what one NSEC RRset tells
+-- ---- what one NSEC RRset shows
 
 -- By its owner and its next name s covers n: n is between the two, or after the owner of the last one, whose next name
 -- is the apex (RFC 4034, 4.1.1; RFC 4035, 5.4).
@@ -39,7 +39,7 @@ abbrev pub Covers : List (List ℕ) → RRset → List (List ℕ) → Type 0
 Covers apex s n = (m : List (List ℕ)) × IsNextName s m × (canonical_order s.owner n ≡ Less)
     × ((canonical_order n m ≡ Less) ⊎ SameLabels m apex)
 
--- Its owner is a cut or owns a DNAME, and n is at or below it. Then s tells nothing of n (RFC 6840, 4.1).
+-- Its owner is a cut or owns a DNAME, and n is at or below it. Then s shows nothing of n (RFC 6840, 4.1).
 abbrev pub IsAncestorDelegation : Zone → RRset → List (List ℕ) → Type 0
 IsAncestorDelegation z s n = EndsWith n s.owner × (IsCut z s.owner ⊎ HasType z s.owner DNAME)
 
@@ -58,7 +58,7 @@ ShowsTypes z s n =
     SameLabels s.owner n
     ⊎ (ShowsNoRecords z s n × ((m : List (List ℕ)) → IsNextName s m → EndsWith m n))
 
--- ---- what those of a response tell
+-- ---- what those of a response show
 
 -- One of the RRsets shows that n doesn't exist.
 abbrev pub SomeShowsNoName : Zone → List RRset → List (List ℕ) → Type 0

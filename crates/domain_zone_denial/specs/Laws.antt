@@ -20,15 +20,15 @@ IsOfZone = (z : Zone) (q : List (List ℕ)) (o : Outcome) (xs : List RRset) → 
     (length xs ≤ 2)
     × ((s : RRset) → Contains xs s → Contains z.rrsets s × ((s.rtype ≡ NSEC) ⊎ ((s.rtype ≡ DS) × ((r : RRset) × (o ≡ referral r)))))
 
--- The NSEC RRset for a name is also the one for each name above it that doesn't exist, as for the next closer name, of
--- one label more than the closest encloser (RFC 4035, 3.1.3.3).
+-- The NSEC RRset for a name is also the one for each name above it that doesn't exist. So it covers the next closer
+-- name, which has one label more than the closest encloser (RFC 4035, 3.1.3.3).
 abbrev pub CoversNextCloser : Type 0
 CoversNextCloser = (z : Zone) (q n : List (List ℕ)) (s : RRset) → IsZone z → EndsWith q n → EndsWith n z.apex → (Exists z n → ⊥) → IsNsecFor z q s → IsNsecFor z n s
 
 -- ---- of a zone with a chain
 
--- The NSEC RRset s of a name in the chain covers n by its owner and its next name exactly if it is the one for n, and
--- n isn't in the chain.
+-- s is the NSEC RRset of a name in the chain. By its owner and its next name it covers n exactly if it is the one for
+-- n, and n isn't in the chain.
 abbrev pub CoversByFields : Type 0
 CoversByFields = (z : Zone) (n : List (List ℕ)) (s : RRset) → IsZone z → HasNsecChain z → EndsWith n z.apex → IsInChain z s.owner → IsAt z s.owner NSEC s →
     ((IsNsecFor z n s × (IsInChain z n → ⊥)) ↔ Covers z.apex s n)
