@@ -470,7 +470,8 @@ def main():
         print(f"beside_servers.py: {unknown[0] if unknown else 'no server'} isn't known or installed", file=sys.stderr)
         return 2
     lines, answers = ((TABLE / it).read_text().splitlines() for it in ("stdin", "stdout"))
-    both = [it for it in zip(lines, answers, strict=True) if it[0][0] != "#" and not it[1].endswith(" no zone")]
+    both = zip(lines, answers, strict=True)
+    both = [it for it in both if it[0].startswith("zone ") and not it[1].endswith(" no zone")]
     read = [Case(number, *it) for number, it in enumerate(both)][: words.zones]
     cases = [it for it in read if it.has_valid_servers()]
     versions = {}

@@ -1,0 +1,1 @@
+use Rattle.domain_zone_denial.proofs.denial.denial.Goals as goal
