@@ -15,10 +15,13 @@ use Rattle.domain_name.specs.declared.absolute.Name.{Name}
 use Rattle.domain_zone.specs.Records.{set_view}
 use Rattle.domain_zone_answer.specs.Sets.{set_list}
 use Rattle.domain_zone_laws.proofs.Nodes.{exists_same}
-use Rattle.domain_zone_laws.specs.Zone.{Zone, RRset, DS, NSEC, IsAt, HasType, Exists, IsClosestEncloser, source_of_synthesis}
+use Rattle.domain_zone_laws.specs.Views.{reply_of}
+use Rattle.domain_zone_laws.specs.declared.reply.Reply as code
+use Rattle.domain_zone_laws.specs.declared.reply.Reply.TheVariants as variants
+use Rattle.domain_zone_laws.specs.Zone.{Zone, RRset, IsAt, HasType, Exists, IsClosestEncloser, source_of_synthesis}
 use Rattle.domain_zone_laws.specs.declared.zone.Rrset.{Rrset}
 use Rattle.domain_zone_denial.proofs.Ordering.{Names}
-use Rattle.domain_zone_denial.specs.Denial.{IsNsecFor, AreNsecFor, AreAt, AreOfCut}
+use Rattle.domain_zone_denial.specs.Denial.{IsNsecFor, AreNsecFor, AreAt, DeniesBeside}
 
 -- ---- lists
 
@@ -34,6 +37,13 @@ module _ {O : Type 0} {g : Ghosts O} where
   pub at_list : (z : Zone) (n : Names) (t : ℕ) (r : Option (Bor (Rrset (Name O g)))) → MatchOption r (HasType z n t → ⊥) (λ s. IsAt z n t (set_view s.now)) → AreAt z n t (set_list r ++ [])
   at_list z n t None h = inr (h, refl)
   at_list z n t (Some s) h = inl (set_view s.now, h, refl)
+
+-- a wildcard that has something
+pub beside_other : {N : Type 0} (labels : N → Names) (z : Zone) (q v : Names) (r : code.Reply N) (xs : List RRset) → (r ≡ variants.NoData → ⊥) → AreNsecFor z q xs → DeniesBeside z q v (reply_of labels r) xs
+beside_other labels z q v (variants.Records s) xs n h = h
+beside_other labels z q v variants.AnyTypes xs n h = h
+beside_other labels z q v (variants.Alias s) xs n h = h
+beside_other labels z q v variants.NoData xs n h = absurd (n refl)
 
 -- ---- the size of a source of synthesis
 

@@ -1,9 +1,10 @@
 //! The NSEC RRset for a name.
 ghost use Rattle.std.specs.Prelude.{MatchOption};
+ghost use Rattle.domain_list.specs.Ends.{EndsWith};
 ghost use Rattle.domain_name.specs.Names.{name_labels};
 ghost use Rattle.domain_zone.specs.Kept.{zone_view};
 ghost use Rattle.domain_zone.specs.Records.{set_view};
-ghost use Rattle.domain_zone_laws.specs.Zone.{RRset, OwnsRecords, IsAt, NSEC};
+ghost use Rattle.domain_zone_laws.specs.Zone.{RRset, IsAt, NSEC};
 ghost use Rattle.domain_zone_denial.specs.Denial.{IsNsecFor};
 ghost use Rattle.domain_zone_denial.specs.Cuts.{IsCutOrSelf};
 
@@ -12,9 +13,9 @@ use domain_zone::{Answer, Owner, Zone};
 use domain_zone_laws::find::place_of;
 use domain_zone_laws::zone::Rrset;
 
-/// The NSEC RRset at the first cut on the way to a name that owns records, or at the name where no cut is on the way.
+/// The NSEC RRset at the first cut on the way to a name in the zone, or at the name where no cut is on the way.
 fn nsec_at_cut_or_self<'z>(zone: &'z Zone, owner: &Owner) -> Option<&'z Rrset<Owner>>
-    requires { OwnsRecords (zone_view zone.now) (name_labels owner.now) }
+    requires { EndsWith (name_labels owner.now) (zone_view zone.now).apex }
     ensures { MatchOption result
         ((s : RRset) → IsCutOrSelf (zone_view zone.now) (name_labels owner.now) s.owner
         → IsAt (zone_view zone.now) s.owner NSEC s → ⊥)
@@ -46,6 +47,7 @@ pub fn nsec_for<'z: 'a, 'a, M: ToLabelIter<'a>>(
     if place == 0 {
         return None;
     }
-    let before = &records.sets[place - 1];
+    let sets = records.sets.as_slice();
+    let before = &sets[place - 1];
     nsec_at_cut_or_self(zone, &before.owner)
 }

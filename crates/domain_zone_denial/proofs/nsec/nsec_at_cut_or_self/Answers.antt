@@ -1,4 +1,4 @@
-use Rattle.std.proofs.Common.{sym, subst}
+use Rattle.std.proofs.Common.{subst}
 use Rattle.domain_name.specs.Names.{name_labels}
 use Rattle.domain_zone.specs.Kept.{zone_view}
 use Rattle.domain_zone.specs.Outcomes.{outcome_of}
@@ -16,4 +16,9 @@ returns-in-Referral c =
     for_referral z (name_labels c.args.owner.now) servers referred c.rrset.result c.rrset.ensures
 
 pub returns-in_default : goal.returns-in_default
-returns-in_default c = ?
+returns-in_default c =
+    let z = zone_view c.args.zone.now in
+    let n = name_labels c.args.owner.now in
+    let a = c.lookup.result in
+    let answers : Answers z n NSEC (outcome_of a) = subst (λ m. Answers z m NSEC (outcome_of a)) c.for_slice-name.ensures c.lookup.ensures in
+    for_self z n (no_cut_of z n a c.requires answers c.in_default.not-Referral) c.rrset-in_default.result c.rrset-in_default.ensures
