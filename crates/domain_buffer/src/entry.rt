@@ -1,6 +1,6 @@
 //! What follows the name of a question or a record in a message (RFC 1035, 4.1.2 and 4.1.3).
 ghost use Rattle.std.specs.Prelude.{◌≤◌, length, IfSome, IfNone, true, false};
-ghost use Rattle.domain_offsets.specs.Entries.{HasParts, LacksParts};
+ghost use Rattle.domain_buffer.specs.Entries.{HasParts, LacksParts};
 
 use domain_header::numbers::{number_of_16_bits, number_of_32_bits};
 

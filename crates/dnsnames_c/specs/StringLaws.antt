@@ -5,7 +5,7 @@ use Rattle.std.proofs.lemmas.Grind.{common_steps}
 use Rattle.std.proofs.lemmas.List.{length-take-le}
 use Rattle.std.proofs.Math.Seq.{drop-append_seam}
 use Rattle.domain_strings.specs.CharStrings.{counted}
-use Rattle.domain_offsets.specs.Texts.{NoStringLeft, HasString}
+use Rattle.dnsnames_c.specs.Strings.{NoStringLeft, HasString}
 
 -- Each string with its length before it, as data of TXT have them: the `string_octets` of `domain_txt`, whose `TextAt`
 -- says of what data are read as text that they are this.

@@ -2,7 +2,7 @@
 use Rattle.std.specs.Prelude.{◌≡◌, ◌⊎◌, ℕ, ◌+◌, ◌≤◌, ◌<◌, Bool, true, false, List, length}
 use Rattle.domain_reading.specs.Faults.{Skips}
 use Rattle.domain_header.specs.Numbers.{number16, number32}
-use Rattle.domain_offsets.specs.declared.entry.Parts.{Parts}
+use Rattle.domain_buffer.specs.declared.entry.Parts.{Parts}
 
 -- The octets after the name of a question (true) or of a record (false) have these parts (RFC 1035, 4.1.2 and 4.1.3):
 -- a type, a class, and of a record a TTL, the length of the data, and the data. A question has no time to live and no
