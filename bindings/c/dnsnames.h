@@ -416,9 +416,47 @@ typedef struct dnsnames_field {
 } dnsnames_field;
 
 /* The field with `index` fields before it in the data of a record: data, data_len, type and class_ are those that
- * dnsnames_record gives. Each type has its fields, in its order; docs/LIBRARY.md has a table of them. Data of other types
- * are one field, DNSNAMES_FIELD_OCTETS. So are, in another class than IN, those of the types that have their fields in
- * class IN alone: A, WKS, PX, AAAA, SRV, KX, APL, DHCID, SVCB and HTTPS.
+ * dnsnames_record gives. The fields of each type, without DNSNAMES_FIELD_ before them:
+ *
+ *     A *                                IPV4
+ *     AAAA *                             IPV6
+ *     NS MD MF CNAME MB MG MR PTR DNAME  NAME
+ *     MINFO RP TALINK                    NAME NAME
+ *     SOA                                NAME NAME SERIAL TTL TTL TTL TTL
+ *     MX AFSDB RT KX * LP                NUMBER16 NAME
+ *     PX *                               NUMBER16 NAME NAME
+ *     SRV *                              NUMBER16 NUMBER16 NUMBER16 NAME
+ *     NAPTR                              NUMBER16 NUMBER16 CHAR_STRING CHAR_STRING CHAR_STRING NAME
+ *     X25                                CHAR_STRING
+ *     HINFO                              CHAR_STRING CHAR_STRING
+ *     GPOS                               CHAR_STRING CHAR_STRING CHAR_STRING
+ *     ISDN                               CHAR_STRING OPTIONAL_STRING
+ *     TXT SPF AVC                        CHAR_STRINGS
+ *     CAA                                NUMBER8 TAG QUOTED_TEXT
+ *     URI                                NUMBER16 NUMBER16 QUOTED_TEXT
+ *     SVCB * HTTPS *                     NUMBER16 NAME SVC_PARAMS
+ *     SIG RRSIG                          TYPE NUMBER8 NUMBER8 TTL TIME TIME NUMBER16 NAME BASE64
+ *     KEY DNSKEY CDNSKEY                 NUMBER16 NUMBER8 NUMBER8 BASE64
+ *     DS CDS DLV                         NUMBER16 NUMBER8 NUMBER8 BASE16
+ *     NSEC                               NAME TYPE_BITMAPS
+ *     NSEC3                              NUMBER8 NUMBER8 NUMBER16 COUNTED_BASE16 COUNTED_BASE32 OPTIONAL_TYPE_BITMAPS
+ *     NSEC3PARAM                         NUMBER8 NUMBER8 NUMBER16 COUNTED_BASE16
+ *     CSYNC                              SERIAL NUMBER16 OPTIONAL_TYPE_BITMAPS
+ *     ZONEMD                             SERIAL NUMBER8 NUMBER8 BASE16
+ *     CERT                               NUMBER16 NUMBER16 NUMBER8 BASE64
+ *     SSHFP                              NUMBER8 NUMBER8 BASE16
+ *     TLSA SMIMEA                        NUMBER8 NUMBER8 NUMBER8 BASE16
+ *     DHCID * OPENPGPKEY                 BASE64
+ *     NID L64                            NUMBER16 NUMBER64
+ *     L32                                NUMBER16 IPV4
+ *     EUI48                              NUMBER48
+ *     EUI64                              NUMBER64
+ *     NXT                                NAME OCTETS
+ *     TKEY                               NAME TIME TIME NUMBER16 NUMBER16 COUNTED_BASE64 COUNTED_BASE64
+ *     TSIG                               NAME NUMBER48 NUMBER16 COUNTED_BASE64 NUMBER16 NUMBER16 COUNTED_BASE64
+ *     all others                         OCTETS
+ *
+ * Types with a star have them in class IN alone, and OCTETS in another class.
  *
  * NO_MORE where the data have no more than `index` fields. The data are read whole or not at all, whatever `index` is:
  * otherwise the status is that of their first error, from the left. SHORT_INPUT where they end past the message, inside a

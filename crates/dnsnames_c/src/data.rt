@@ -50,12 +50,8 @@ pub extern "C" fn dnsnames_data_name(
         Ok(field) => field,
         Err(fault) => return number_of_lack(fault),
     };
-    give_name(
-        &message[..data_at + data_len],
-        field.begin(),
-        buffer,
-        length,
-    )
+    let octets = &message[..data_at + data_len];
+    give_name(octets, field.begin(), buffer, length)
 }
 
 /// The number at an offset that a field of this kind is, of at most 32 bits.
@@ -91,7 +87,8 @@ pub extern "C" fn dnsnames_data_number(
         Ok(field) => field,
         Err(fault) => return number_of_lack(fault),
     };
-    *value = number_at(field.kind(), &message[..data_at + data_len], field.begin());
+    let octets = &message[..data_at + data_len];
+    *value = number_at(field.kind(), octets, field.begin());
     0
 }
 
