@@ -384,6 +384,7 @@ static void ask_of_data(const uint8_t *message, size_t len, size_t offset)
     size_t index = random_below(6) == 0 ? random_below(3) : random_below(2), capacity = random_below(20), end = offset;
     size_t data_len = random_below(100), begin = offset, number = random_below(6), address_len = random_below(20);
     uint16_t address_type = random_below(2) == 0 ? 1 : (uint16_t)(27 + random_below(2));
+    uint16_t class_ = (uint16_t)(1 + random_below(2));
 
     if (random_below(3) != 0)
         address_len = address_type == 1 ? 4 : 16;
@@ -398,7 +399,7 @@ static void ask_of_data(const uint8_t *message, size_t len, size_t offset)
     BOTH(data_name, message, len, begin, data_len, type, index, x->buffer, sizeof x->buffer, &x->size[0]);
     BOTH(data_name, message, len, begin, data_len, type, index, x->buffer, capacity, &x->size[0]);
     BOTH(data_number, message, len, begin, data_len, type, number, &x->flag);
-    BOTH(data_field, message, len, begin, data_len, type, (uint16_t)(1 + random_below(2)), index, &x->field);
+    BOTH(data_field, message, len, begin, data_len, type, class_, index, &x->field);
 }
 
 /* So many random octets. */
@@ -470,9 +471,9 @@ static size_t put_field(uint8_t *octets, size_t at, char letter)
 /* Data of any type and class, most of which are right, behind a name: each of their fields, and one more. */
 static void ask_of_fields(void)
 {
-    static const uint16_t late[] = {99, 104, 105, 106, 107, 108, 109, 249, 250, 256, 257, 258, 32769};
+    static const uint16_t some[] = {35, 46, 47, 50, 64, 65, 99, 104, 105, 106, 107, 108, 109, 249, 250, 256, 257, 258, 32769};
     uint8_t octets[600] = "\1b\1a";
-    uint16_t type = random_below(4) == 0 ? late[random_below(13)] : (uint16_t)random_below(66);
+    uint16_t type = random_below(2) == 0 ? some[random_below(19)] : (uint16_t)random_below(66);
     uint16_t class_ = random_below(4) == 0 ? (uint16_t)(1 + random_below(4)) : 1;
     size_t data = 5, end = data, len, data_len, index;
     const char *letter;

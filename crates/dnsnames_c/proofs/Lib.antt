@@ -1,3 +1,4 @@
 pub mod LabelOffsets
 pub mod Dots
 pub mod CompressedFlag
+pub mod FieldsIn

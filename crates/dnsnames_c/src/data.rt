@@ -11,7 +11,7 @@ ghost use Rattle.dnsnames_c.specs.declared.wanted.Wanted.TheVariants.{Number};
 use crate::put::give;
 use crate::wanted::{Wanted, number_of_lack, wanted_field};
 use domain_buffer::read::read_into;
-use domain_descriptor::{FieldForm, FieldKind, form_of};
+use domain_descriptor::FieldKind;
 use domain_header::numbers::{number_of_16_bits, number_of_32_bits};
 
 /// Gives the name at an offset, where one can be read.
@@ -34,6 +34,7 @@ fn give_name(octets: &[u8], begin: usize, buffer: &mut [u8], length: &mut usize)
 /// number of their first error, as `dnsnames_data_field` does. In each of these cases nothing is changed. Returns 8 if
 /// the name doesn't fit into the buffer, which then stays unchanged.
 #[unsafe(no_mangle)]
+#[tactic(auto, using(crate::proofs::FieldsIn::inside_of, crate::proofs::FieldsIn::name_there))]
 pub extern "C" fn dnsnames_data_name(
     message: &[u8],
     data_at: usize,
@@ -60,10 +61,15 @@ fn number_at(kind: FieldKind, message: &[u8], at: usize) -> u32
     requires inside { at + size_of kind ≤ length message.now }
     ensures { number_in kind message.now at ≡ Some result }
 {
-    match form_of(kind) {
-        FieldForm::Fixed(1) => u32::from(message[at]),
-        FieldForm::Fixed(2) => u32::from(number_of_16_bits(message, at)),
-        _ => number_of_32_bits(message, at),
+    match kind {
+        FieldKind::Number8 => u32::from(message[at]),
+        FieldKind::Number16 => u32::from(number_of_16_bits(message, at)),
+        FieldKind::Rtype => u32::from(number_of_16_bits(message, at)),
+        FieldKind::Number32 => number_of_32_bits(message, at),
+        FieldKind::Ttl => number_of_32_bits(message, at),
+        FieldKind::Serial => number_of_32_bits(message, at),
+        FieldKind::Time => number_of_32_bits(message, at),
+        _ => unreachable!(),
     }
 }
 
@@ -73,6 +79,7 @@ fn number_at(kind: FieldKind, message: &[u8], at: usize) -> u32
 /// Returns 21 if data of this type have no such number, and otherwise the number of the data's first error, as
 /// `dnsnames_data_name` does. In each of these cases nothing is changed.
 #[unsafe(no_mangle)]
+#[tactic(auto, using(crate::proofs::FieldsIn::inside_of, crate::proofs::FieldsIn::kind_wanted, crate::proofs::FieldsIn::number_there, crate::proofs::FieldsIn::number_told))]
 pub extern "C" fn dnsnames_data_number(
     message: &[u8],
     data_at: usize,

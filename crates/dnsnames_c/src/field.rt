@@ -85,6 +85,7 @@ pub(crate) fn data_in<'m>(
 /// its blocks has no octet or more than 32, and 36 if the keys of service parameters don't ascend. It is 7 if octets
 /// follow the last field. In each of these cases nothing is changed.
 #[unsafe(no_mangle)]
+#[tactic(auto, using(crate::proofs::FieldsIn::known_after))]
 pub extern "C" fn dnsnames_data_field(
     message: &[u8],
     data_at: usize,

@@ -77,6 +77,7 @@ fn place_of(kinds: &[FieldKind], wanted: Wanted, index: usize) -> Option<usize>
 /// are the `data_len` octets of the message from `data_at` on, and are read whole or not at all.
 ///
 /// `NoField` where data of this type have no such field; otherwise the first error of the data.
+#[tactic(auto, using(crate::proofs::FieldsIn::place_known, crate::proofs::FieldsIn::no_place_known, crate::proofs::FieldsIn::field_there))]
 pub(crate) fn wanted_field<'m>(
     message: &'m [u8],
     data_at: usize,
