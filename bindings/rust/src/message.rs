@@ -218,9 +218,9 @@ impl<'a> Message<'a> {
     /// The field with `index` fields before it in the data of a record of this message, by its type and class; `None`
     /// where there are no more. Data of which nothing is known are one field of octets.
     ///
-    /// The data are read whole or not at all, whatever `index` is: otherwise their first error, from the left. It is
-    /// `ShortInput` where they end inside a field or where one is due, a fault of [`read`] at a name, `InvalidTag`,
-    /// `EmptyHash`, `WindowOrder`, `BitmapLength`, `KeyOrder`, or `TrailingData` where octets follow the last field.
+    /// The data are read whole or not at all, whatever `index` is: otherwise their first error, from the left.
+    /// `ShortInput` where they end inside a field or where one is due, `TrailingData` where octets follow the last one.
+    /// A fault of [`read`] at a name; `InvalidTag`, `EmptyHash`, `WindowOrder`, `BitmapLength`, `KeyOrder`.
     ///
     /// ```
     /// use dnsnames::{FieldKind, Message};

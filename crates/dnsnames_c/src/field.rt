@@ -73,7 +73,7 @@ pub(crate) fn data_in<'m>(
     Rdata::parse(rtype, class, &message[..data_at + data_len], data_at)
 }
 
-/// Gives the field with `index` fields before it in the data of a record of this type in this class, which are the
+/// Gives the field with `index` fields before it in the data of a record of this type in this class. The data are the
 /// `data_len` octets of the message from `data_at` on. `kind` becomes the number of its kind, `begin` and `end` the
 /// offsets in the message at which it begins and after it. `number` becomes the number that it is, of at most 64 bits,
 /// or 0 where it is none. Data of which nothing is known is one field of octets.
@@ -81,9 +81,9 @@ pub(crate) fn data_in<'m>(
 /// Returns 27 if the data have no more than `index` fields. The data are read whole or not at all: otherwise returns
 /// the number of the first error from the left. It is 1 if the data end past the message, in a field or where one is
 /// due, and 1 to 4 as `dnsnames_read` returns for a name. It is 32 if a tag is empty or has another octet than letters
-/// and digits, and 33 if the hash of NSEC3 is empty. It is 34 if the windows of a type bitmap don't ascend, 35 if one of
-/// its blocks has no octet or more than 32, and 36 if the keys of service parameters don't ascend. It is 7 if octets
-/// follow the last field. In each of these cases nothing is changed.
+/// and digits, and 33 if the hash of NSEC3 is empty. It is 34 if the windows of a type bitmap don't ascend, and 35 if
+/// one of its blocks has no octet or more than 32. It is 36 if the keys of service parameters don't ascend, and 7 if
+/// octets follow the last field. In each of these cases nothing is changed.
 #[unsafe(no_mangle)]
 #[tactic(auto, using(crate::proofs::FieldsIn::known_after))]
 pub extern "C" fn dnsnames_data_field(
