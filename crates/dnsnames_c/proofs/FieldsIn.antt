@@ -1,9 +1,9 @@
 -- Fields in the data of records.
-use Rattle.std.proofs.Common.{◌≡◌, ◌∙◌, ℕ, ◌+◌, ◌<◌, ◌≤◌, List, length, take, get_or, refl, sym, ap, subst, arith}
-use Rattle.std.specs.Prelude.{◌×◌, Some, true, false}
+use Rattle.std.proofs.Common.{◌≡◌, ◌∙◌, ℕ, ◌+◌, ◌≤◌, List, length, take, get_or, refl, ap, subst, arith}
+use Rattle.std.specs.Prelude.{Some, true}
 use Rattle.std.proofs.lemmas.Bool.{false≢true}
 use Rattle.domain_descriptor.specs.Fields.{NameAt, FieldAt}
-use Rattle.domain_descriptor.specs.Rdatas.{rdata_kinds, rdata_message, field_kind, field_message, field_begin, field_after, IsField}
+use Rattle.domain_descriptor.specs.Rdatas.{rdata_kinds, field_kind, field_message, field_begin, field_after}
 use Rattle.domain_descriptor.specs.Table.{known_fields}
 use Rattle.domain_descriptor.specs.Values.{number_in, size_of}
 use Rattle.domain_descriptor.specs.declared.kind.FieldKind.{FieldKind}
@@ -12,12 +12,11 @@ use Rattle.domain_descriptor.specs.declared.rdata.Field.{Field}
 use Rattle.domain_descriptor.specs.declared.rdata.Rdata.{Rdata}
 use Rattle.domain_reading.proofs.NameOrFault.{names_or_fault}
 use Rattle.domain_reading.specs.Faults.{NameFaultAt}
-use Rattle.domain_reading.specs.Grammar.{Names}
 use Rattle.domain_reading.specs.declared.fault.NameFault.{NameFault}
-use Rattle.dnsnames_c.specs.Fields.{ReadsData, HasField}
+use Rattle.dnsnames_c.specs.Fields.{ReadsData}
 use Rattle.dnsnames_c.specs.Wanted.{is_wanted, IsPlace, HasNoPlace, HasWanted}
 use Rattle.dnsnames_c.specs.declared.wanted.Wanted.{Wanted}
-use Rattle.dnsnames_c.specs.declared.wanted.Wanted.TheVariants.{Name, Number, Address}
+use Rattle.dnsnames_c.specs.declared.wanted.Wanted.TheVariants.{Name, Number}
 
 -- the fields of data are those of the table
 pub known_after : (all : Rdata) (message : List ℕ) (p len rtype class index : ℕ) → ReadsData message p len rtype class all → length (rdata_kinds all) ≤ index → length (known_fields rtype class) ≤ index

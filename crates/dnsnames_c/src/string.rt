@@ -1,5 +1,5 @@
 //! Character strings in the data of records (RFC 1035, 3.3).
-ghost use Rattle.std.specs.Prelude.{◌↔◌, ◌≤◌, length, IsTrue, MatchOption};
+ghost use Rattle.std.specs.Prelude.{◌↔◌, ◌≤◌, length, IsTrue};
 ghost use Rattle.dnsnames_c.specs.Strings.{AreStrings, FindsCharString, GivesDataString};
 
 use domain_descriptor::table::CLASS_IN;
@@ -9,8 +9,10 @@ use domain_descriptor::{FieldKind, known_fields};
 fn are_strings(rtype: u16) -> bool
     ensures { IsTrue result ↔ AreStrings rtype }
 {
-    let kinds = known_fields(rtype, CLASS_IN);
-    kinds.len() == 1 && kinds[0] == FieldKind::CharStrings
+    let [kind] = known_fields(rtype, CLASS_IN) else {
+        return false;
+    };
+    *kind == FieldKind::CharStrings
 }
 
 /// The character string that octets begin with at an offset.

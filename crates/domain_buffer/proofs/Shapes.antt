@@ -1,7 +1,7 @@
 -- What data with names are, by the table of types.
-use Rattle.std.proofs.Common.{◌≡◌, ℕ, ◌≤◌, List, [], ◌∷◌, length, refl, sym, ap, subst, inl, inr, arith}
+use Rattle.std.proofs.Common.{◌≡◌, ◌∙◌, ℕ, ◌≤◌, List, [], ◌∷◌, length, sym, ap, subst, inl, inr, arith}
 use Rattle.std.proofs.lemmas.Bool.{or_cases, eqb-true, false≢true}
-use Rattle.std.specs.Prelude.{◌×◌, nat_eq, true}
+use Rattle.std.specs.Prelude.{Bool, Some, None, nat_eq, true, if◌then◌else◌}
 use Rattle.std.specs.List.{list_any, AllByRecursion}
 use Rattle.domain_descriptor.specs.Forms.{form}
 use Rattle.domain_descriptor.specs.Table.{known_fields, compresses_names}
@@ -9,7 +9,8 @@ use Rattle.domain_descriptor.specs.Values.{width, size_of}
 use Rattle.domain_descriptor.specs.declared.form.FieldForm.TheVariants as forms
 use Rattle.domain_descriptor.specs.declared.kind.FieldKind.{FieldKind}
 use Rattle.domain_descriptor.specs.declared.kind.FieldKind.TheVariants as kinds
-use Rattle.domain_buffer.specs.Data.{shape, IsSmall}
+use Rattle.domain_buffer.specs.Data.{shape, compressed_shape, IsSmall}
+use Rattle.domain_buffer.specs.declared.data.Shape.{Shape}
 
 -- a field of fixed size has at most the octets of an IPv6 address
 small : (kind : FieldKind) → size_of kind ≤ 16
@@ -48,8 +49,14 @@ few rtype is =
       tt,
     )
 
-pub few_fields : (rtype : ℕ) → compresses_names rtype ≡ true → length (known_fields rtype 1) ≤ 1024
-few_fields rtype is = (few rtype is).0
+-- where a test says that they may be
+pub few_fields : (rtype : ℕ) (told : Bool) (fields : List FieldKind) → told ≡ compresses_names rtype → told ≡ true → fields ≡ known_fields rtype 1 → length fields ≤ 1024
+few_fields rtype told fields is yes same = subst (λ (ks : List FieldKind). length ks ≤ 1024) (sym same) (few rtype (sym is ∙ yes)).0
 
-pub small_shape : (rtype : ℕ) → compresses_names rtype ≡ true → IsSmall (shape (known_fields rtype 1))
-small_shape rtype is = (few rtype is).1
+pub small_shape : (rtype : ℕ) (told : Bool) (fields : List FieldKind) (it : Shape) → told ≡ compresses_names rtype → told ≡ true → fields ≡ known_fields rtype 1 → it ≡ shape fields → IsSmall it
+small_shape rtype told fields it is yes same made = subst IsSmall (sym (made ∙ ap shape same)) (few rtype (sym is ∙ yes)).1
+
+pub shape_known : (rtype : ℕ) (told : Bool) (fields : List FieldKind) (it : Shape) → told ≡ compresses_names rtype → told ≡ true → fields ≡ known_fields rtype 1 → it ≡ shape fields → Some it ≡ compressed_shape rtype
+shape_known rtype told fields it is yes same made =
+    let here : Some it ≡ Some (shape (known_fields rtype 1)) = ap Some (made ∙ ap shape same) in
+    subst (λ b. Some it ≡ if b then Some (shape (known_fields rtype 1)) else None) (sym (sym is ∙ yes)) here

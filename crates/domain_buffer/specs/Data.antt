@@ -2,7 +2,7 @@
 use Rattle.std.specs.Prelude.{◌≡◌, ◌≢◌, ◌⊎◌, ℕ, ◌+◌, ◌≤◌, List, [], ◌++◌, length, take, Option, Some, None, nat_eq, if◌then◌else◌, MatchOption}
 use Rattle.std.specs.List.{fold}
 use Rattle.domain_label.specs.Wire.{IsAbsoluteWire}
-use Rattle.domain_descriptor.specs.Forms.{form}
+use Rattle.domain_descriptor.specs.Forms.{form as kind_form}
 use Rattle.domain_descriptor.specs.Table.{known_fields, compresses_names}
 use Rattle.domain_descriptor.specs.declared.form.FieldForm.{FieldForm}
 use Rattle.domain_descriptor.specs.declared.form.FieldForm.TheVariants as forms
@@ -28,7 +28,7 @@ with_form s _ = s
 
 -- what data of these fields are, where names are one after another
 abbrev pub shape : List FieldKind → Shape
-shape kinds = fold (λ s kind. with_form s (form kind)) no_fields kinds
+shape kinds = fold (λ s kind. with_form s (kind_form kind)) no_fields kinds
 
 -- what data of a type are in which names may be compressed (RFC 3597, 4)
 abbrev pub compressed_shape : ℕ → Option Shape

@@ -76,7 +76,7 @@ fn shape_of(kinds: &[FieldKind]) -> Shape
 }
 
 /// The shape of data of a type in which names may be compressed (RFC 3597, 4).
-#[tactic(auto, using(crate::proofs::Shapes::few_fields, crate::proofs::Shapes::small_shape))]
+#[tactic(auto, using(crate::proofs::Shapes::few_fields, crate::proofs::Shapes::small_shape, crate::proofs::Shapes::shape_known))]
 fn compressed_shape_of(rtype: u16) -> Option<Shape>
     ensures shape { result ≡ compressed_shape rtype }
     ensures small { IfSome result IsSmall }
