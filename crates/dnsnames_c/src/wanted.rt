@@ -1,5 +1,5 @@
 //! Names, numbers and addresses in the data of records, by how many of them come before (RFC 1035, 3.3).
-ghost use Rattle.std.specs.Prelude.{◌≡◌, IfSome, IfNone, IfOk, IfErr};
+ghost use Rattle.std.specs.Prelude.{◌≡◌, ◌≤◌, ◌+◌, length, IfSome, IfNone, IfOk, IfErr};
 ghost use Rattle.dnsnames_c.specs.Wanted.{is_wanted, IsPlace, HasNoPlace, HasWanted, LacksWanted, lack_number};
 
 use crate::field::{data_in, number_of_data};
@@ -87,6 +87,7 @@ pub(crate) fn wanted_field<'m>(
     index: usize,
 ) -> Result<Field<'m>, FieldFault>
     ensures ok { IfOk result (HasWanted wanted message.now data_at data_len rtype index) }
+    ensures inside { IfOk result (λ it. data_at + data_len ≤ length message.now) }
     ensures err { IfErr result (LacksWanted wanted message.now data_at data_len rtype index) }
 {
     let Some(place) = place_of(known_fields(rtype, CLASS_IN), wanted, index) else {

@@ -6,6 +6,7 @@ use Rattle.std.specs.List.{list_any, AllByRecursion}
 use Rattle.domain_descriptor.specs.Forms.{form}
 use Rattle.domain_descriptor.specs.Table.{known_fields, compresses_names}
 use Rattle.domain_descriptor.specs.Values.{width, size_of}
+use Rattle.domain_descriptor.specs.declared.form.FieldForm.{FieldForm}
 use Rattle.domain_descriptor.specs.declared.form.FieldForm.TheVariants as forms
 use Rattle.domain_descriptor.specs.declared.kind.FieldKind.{FieldKind}
 use Rattle.domain_descriptor.specs.declared.kind.FieldKind.TheVariants as kinds
@@ -17,8 +18,8 @@ small : (kind : FieldKind) → size_of kind ≤ 16
 small kinds.Ipv6 = omega arith
 small _ = omega arith
 
-pub fixed_small : (kind : FieldKind) (n : ℕ) → form kind ≡ forms.Fixed n → n ≤ 16
-fixed_small kind n is = subst (λ k. k ≤ 16) (ap width is) (small kind)
+pub fixed_small : (kind : FieldKind) (it : FieldForm) (n : ℕ) → it ≡ form kind → it ≡ forms.Fixed n → n ≤ 16
+fixed_small kind it n of_kind is = subst (λ k. k ≤ 16) (ap width (sym of_kind ∙ is)) (small kind)
 
 -- what holds of each number of a list
 each_of : (P : ℕ → Type 0) (n : ℕ) (xs : List ℕ) → list_any (nat_eq n) xs ≡ true → AllByRecursion P xs → P n

@@ -1,7 +1,7 @@
 //! Data of records that have names which may be compressed (RFC 1035, 3.3 and 4.1.4).
 ghost use Rattle.std.specs.Prelude.{◌≡◌, ◌≤◌, ◌+◌, length, IfSome, IsNone, MatchOption};
 ghost use Rattle.domain_descriptor.specs.Forms.{form};
-ghost use Rattle.domain_buffer.specs.Data.{Fields, whole, with_form, shape, compressed_shape, IsSmall, IsNameFront, HasNoNameFront, FindsSecondFront, IsNamed, AreDataOf};
+ghost use Rattle.domain_buffer.specs.Data.{Fields, whole, with_octets, with_form, shape, compressed_shape, IsSmall, IsNameFront, HasNoNameFront, FindsSecondFront, IsNamed, AreDataOf};
 
 use domain_descriptor::table::CLASS_IN;
 use domain_descriptor::{FieldForm, FieldKind, compresses_names, form_of, known_fields};
@@ -31,6 +31,29 @@ pub struct Shape {
     pub after: usize,
 }
 
+/// The shape of data that have so many octets more, behind those before the names, or behind those after them.
+fn with_octets(shape: Shape, len: usize) -> Shape
+    requires before { shape.before ≤ 16384 }
+    requires after { shape.after ≤ 16384 }
+    requires len { len ≤ 16 }
+    ensures shape { result ≡ with_octets len shape }
+    ensures before { result.before ≤ shape.before + 16 }
+    ensures names { result.names ≡ shape.names }
+    ensures after { result.after ≤ shape.after + 16 }
+{
+    if shape.names == 0 {
+        Shape {
+            before: shape.before + len,
+            ..shape
+        }
+    } else {
+        Shape {
+            after: shape.after + len,
+            ..shape
+        }
+    }
+}
+
 /// The shape of data that have a field more, which is of this kind.
 #[tactic(auto, using(crate::proofs::Shapes::fixed_small))]
 fn with_field(shape: Shape, kind: FieldKind) -> Shape
@@ -47,14 +70,7 @@ fn with_field(shape: Shape, kind: FieldKind) -> Shape
             names: shape.names + 1,
             ..shape
         },
-        FieldForm::Fixed(len) if shape.names == 0 => Shape {
-            before: shape.before + len,
-            ..shape
-        },
-        FieldForm::Fixed(len) => Shape {
-            after: shape.after + len,
-            ..shape
-        },
+        FieldForm::Fixed(len) => with_octets(shape, len),
         _ => shape,
     }
 }
