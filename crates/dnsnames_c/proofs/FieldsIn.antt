@@ -1,11 +1,11 @@
 -- Fields in the data of records.
-use Rattle.std.proofs.Common.{◌≡◌, ◌∙◌, ℕ, ◌+◌, ◌≤◌, List, length, take, get_or, refl, ap, subst, arith}
-use Rattle.std.specs.Prelude.{Some, true}
+use Rattle.std.proofs.Common.{◌≡◌, ◌∙◌, ℕ, ◌+◌, ◌≤◌, List, length, take, get_or, refl, sym, ap, subst, arith}
+use Rattle.std.specs.Prelude.{true}
 use Rattle.std.proofs.lemmas.Bool.{false≢true}
 use Rattle.domain_descriptor.specs.Fields.{NameAt, FieldAt}
 use Rattle.domain_descriptor.specs.Rdatas.{rdata_kinds, field_kind, field_message, field_begin, field_after}
 use Rattle.domain_descriptor.specs.Table.{known_fields}
-use Rattle.domain_descriptor.specs.Values.{number_in, size_of}
+use Rattle.domain_descriptor.specs.Values.{size_of}
 use Rattle.domain_descriptor.specs.declared.kind.FieldKind.{FieldKind}
 use Rattle.domain_descriptor.specs.declared.kind.FieldKind.TheVariants as kinds
 use Rattle.domain_descriptor.specs.declared.rdata.Field.{Field}
@@ -50,20 +50,17 @@ message_of wanted message p len rtype index it (place, at, (all, reads, field)) 
 pub inside_of : (wanted : Wanted) (message : List ℕ) (p len rtype index : ℕ) (it : Field) → HasWanted wanted message p len rtype index it → p + len ≤ length message
 inside_of wanted message p len rtype index it (place, at, (all, reads, field)) = reads.0.inside
 
--- ---- names
-
+-- where a name is, it can be read
 is_name : (kind : FieldKind) → is_wanted Name kind ≡ true → kind ≡ kinds.Name
 is_name kinds.Name is = refl
 is_name _ is = absurd (false≢true is)
 
--- where a name is, it can be read
-pub name_there : (message : List ℕ) (p len rtype index : ℕ) (it : Field) → HasWanted Name message p len rtype index it → (f : NameFault) → NameFaultAt 255 (take (p + len) message) (field_begin it) f → ⊥
-name_there message p len rtype index it has f fault =
+pub name_there : (message : List ℕ) (p len rtype index : ℕ) (it : Field) (q : ℕ) → HasWanted Name message p len rtype index it → q ≡ field_begin it → (f : NameFault) → NameFaultAt 255 (take (p + len) message) q f → ⊥
+name_there message p len rtype index it q has here f fault =
     let m = take (p + len) message in
-    let named : NameAt m (field_begin it) (field_after it) = subst (λ k. FieldAt k m (field_begin it) (field_after it)) (is_name (field_kind it) (kind_wanted Name message p len rtype index it has)) (wanted_at Name message p len rtype index it has) in
-    names_or_fault named.0.1 fault
-
--- ---- numbers
+    let kind = is_name (field_kind it) (kind_wanted Name message p len rtype index it has) in
+    let named : NameAt m (field_begin it) (field_after it) = subst (λ k. FieldAt k m (field_begin it) (field_after it)) kind (wanted_at Name message p len rtype index it has) in
+    names_or_fault named.0.1 (subst (λ x. NameFaultAt 255 m x f) here fault)
 
 -- a number ends inside the octets
 number_inside : (kind : FieldKind) (m : List ℕ) (p e : ℕ) → is_wanted Number kind ≡ true → FieldAt kind m p e → p + size_of kind ≤ length m
@@ -76,10 +73,10 @@ number_inside kinds.Time m p e is at = omega (arith, at.0, at.1)
 number_inside kinds.Rtype m p e is at = omega (arith, at.0, at.1)
 number_inside _ m p e is at = absurd (false≢true is)
 
-pub number_there : (message : List ℕ) (p len rtype index : ℕ) (it : Field) → HasWanted Number message p len rtype index it → field_begin it + size_of (field_kind it) ≤ length (take (p + len) message)
-number_there message p len rtype index it has =
-    number_inside (field_kind it) (take (p + len) message) (field_begin it) (field_after it) (kind_wanted Number message p len rtype index it has) (wanted_at Number message p len rtype index it has)
+pub number_there : (message : List ℕ) (p len rtype index : ℕ) (it : Field) (kind : FieldKind) (q : ℕ) → HasWanted Number message p len rtype index it → kind ≡ field_kind it → q ≡ field_begin it → q + size_of kind ≤ length (take (p + len) message)
+number_there message p len rtype index it kind q has same here =
+    let inside = number_inside (field_kind it) (take (p + len) message) (field_begin it) (field_after it) (kind_wanted Number message p len rtype index it has) (wanted_at Number message p len rtype index it has) in
+    subst (λ k. q + size_of k ≤ length (take (p + len) message)) (sym same) (omega (arith, inside, here))
 
-pub number_told : (message : List ℕ) (p len rtype index n : ℕ) (it : Field) → HasWanted Number message p len rtype index it → number_in (field_kind it) (take (p + len) message) (field_begin it) ≡ Some n → number_in (field_kind it) (field_message it) (field_begin it) ≡ Some n
-number_told message p len rtype index n it has is =
-    ap (λ m. number_in (field_kind it) m (field_begin it)) (message_of Number message p len rtype index it has) ∙ is
+pub number_kind : (message : List ℕ) (p len rtype index : ℕ) (it : Field) (kind : FieldKind) → HasWanted Number message p len rtype index it → kind ≡ field_kind it → is_wanted Number kind ≡ true
+number_kind message p len rtype index it kind has same = ap (is_wanted Number) same ∙ kind_wanted Number message p len rtype index it has

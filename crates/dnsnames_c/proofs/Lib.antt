@@ -2,3 +2,4 @@ pub mod LabelOffsets
 pub mod Dots
 pub mod CompressedFlag
 pub mod FieldsIn
+pub mod Given

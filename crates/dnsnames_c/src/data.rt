@@ -34,7 +34,7 @@ fn give_name(octets: &[u8], begin: usize, buffer: &mut [u8], length: &mut usize)
 /// number of their first error, as `dnsnames_data_field` does. In each of these cases nothing is changed. Returns 8 if
 /// the name doesn't fit into the buffer, which then stays unchanged.
 #[unsafe(no_mangle)]
-#[tactic(auto, using(crate::proofs::FieldsIn::inside_of, crate::proofs::FieldsIn::name_there))]
+#[tactic(auto, using(crate::proofs::FieldsIn::name_there, crate::proofs::Given::name_given))]
 pub extern "C" fn dnsnames_data_name(
     message: &[u8],
     data_at: usize,
@@ -79,7 +79,7 @@ fn number_at(kind: FieldKind, message: &[u8], at: usize) -> u32
 /// Returns 21 if data of this type have no such number, and otherwise the number of the data's first error, as
 /// `dnsnames_data_name` does. In each of these cases nothing is changed.
 #[unsafe(no_mangle)]
-#[tactic(auto, using(crate::proofs::FieldsIn::inside_of, crate::proofs::FieldsIn::kind_wanted, crate::proofs::FieldsIn::number_there, crate::proofs::FieldsIn::number_told))]
+#[tactic(auto, using(crate::proofs::FieldsIn::number_kind, crate::proofs::FieldsIn::number_there, crate::proofs::Given::number_given))]
 pub extern "C" fn dnsnames_data_number(
     message: &[u8],
     data_at: usize,
@@ -107,6 +107,7 @@ pub extern "C" fn dnsnames_data_number(
 /// `dnsnames_data_name` does. In each of these cases nothing is changed. Returns 8 if the address doesn't fit into the
 /// buffer, which then stays unchanged.
 #[unsafe(no_mangle)]
+#[tactic(auto, using(crate::proofs::Given::address_given))]
 pub extern "C" fn dnsnames_data_address(
     message: &[u8],
     data_at: usize,

@@ -85,7 +85,7 @@ pub(crate) fn data_in<'m>(
 /// one of its blocks has no octet or more than 32. It is 36 if the keys of service parameters don't ascend, and 7 if
 /// octets follow the last field. In each of these cases nothing is changed.
 #[unsafe(no_mangle)]
-#[tactic(auto, using(crate::proofs::FieldsIn::known_after))]
+#[tactic(auto, using(crate::proofs::Given::field_given, crate::proofs::Given::no_more_given, crate::proofs::Given::fault_given))]
 pub extern "C" fn dnsnames_data_field(
     message: &[u8],
     data_at: usize,
