@@ -7,8 +7,9 @@
  * Every call answers a status, and gives its results through pointers. A refused call, whose status is not
  * DNSNAMES_OK, leaves what the pointers lead to as it was; with DNSNAMES_NO_ROOM alone it tells in *length (and
  * dnsnames_read in its other results) what an answer has, and leaves the buffer; dnsnames_table keeps what it read
- * before, and texts of messages and records have their beginning there. No call allocates, keeps a pointer or has a state,
- * so each may be made from any thread and at any time.
+ * before, and texts of messages and records have their beginning there. Where an RRset is refused or has no room, what
+ * the buffer has after the message, up to the limit, may be written over. No call allocates, keeps a pointer or has a
+ * state, so each may be made from any thread and at any time.
  *
  * What is proved of each call is what it says here, for all octets and all lengths: which results it gives, when it
  * refuses and with which status, what it leaves, that it ends, and that it reads and writes within the lengths that it
@@ -45,7 +46,7 @@ extern "C" {
 #define DNSNAMES_KEY_LEN 16
 
 /* The version of this header; dnsnames_version tells that of the library. */
-#define DNSNAMES_VERSION "0.6.0"
+#define DNSNAMES_VERSION "0.7.0"
 
 typedef enum dnsnames_status {
     DNSNAMES_OK = 0,
@@ -87,7 +88,7 @@ typedef enum dnsnames_status {
     DNSNAMES_NULL = 18,
     /* Octets of a relative name: a root label stands in them. */
     DNSNAMES_ABSOLUTE = 19,
-    /* A length that is passed is larger than the capacity beside it. */
+    /* A length that is passed is larger than the capacity beside it, or lengths don't make up the octets beside them. */
     DNSNAMES_BAD_LENGTH = 20,
     /* Data of records of this type have no such field: name, number, address, string or option. */
     DNSNAMES_NO_FIELD = 21,
@@ -108,7 +109,9 @@ typedef enum dnsnames_status {
     /* Text of a message: it wasn't made. This doesn't come, but no proof tells so. */
     DNSNAMES_NO_TEXT = 29,
     /* Aliases: the first question has no canonical name, or more records lead on than the limit allows. */
-    DNSNAMES_NO_END = 30
+    DNSNAMES_NO_END = 30,
+    /* Building: the mark is no builder as its calls leave it, or is longer than the message. */
+    DNSNAMES_NO_MARK = 31
 } dnsnames_status;
 
 /* The version of the library: a text that stays. */
@@ -572,6 +575,54 @@ dnsnames_status dnsnames_builder_record(dnsnames_builder *builder, uint32_t sect
                                         size_t owner_len, uint16_t type, uint16_t class_, uint32_t ttl,
                                         const uint8_t *data, size_t data_len);
 
+/* Pushes an RRset into a section, or nothing (RFC 2181, 5): records of one owner, type, class and TTL, one for each of the
+ * data, in their order. The data stand one after the other, and lens has how many octets each has: `lens_len` lengths,
+ * which make up `data_len`. Each record is written as dnsnames_builder_record writes it. Of no data nothing is pushed.
+ *
+ * NO_BUILDER, NO_SECTION, NO_NAME, BAD_LENGTH; then WRONG_ORDER, TOO_MANY_ENTRIES and NO_ROOM as dnsnames_builder_record
+ * has them, of the first record that is refused after those before it. After a refusal the message is as it was.
+ *
+ *     // The two addresses of a name.
+ *     static const uint8_t data[8] = {192, 0, 2, 1, 192, 0, 2, 2};
+ *     static const uint16_t lens[2] = {4, 4};
+ *     status = dnsnames_builder_rrset(&builder, DNSNAMES_ANSWER, name, name_len, DNSNAMES_TYPE_A, DNSNAMES_CLASS_IN, 60,
+ *                                     data, sizeof data, lens, 2);
+ */
+dnsnames_status dnsnames_builder_rrset(dnsnames_builder *builder, uint32_t section, const uint8_t *owner,
+                                       size_t owner_len, uint16_t type, uint16_t class_, uint32_t ttl,
+                                       const uint8_t *data, size_t data_len, const uint16_t *lens, size_t lens_len);
+
+/* Pushes an RRset that an answer can't do without: those of the answer section, the name servers of a referral, and those
+ * of their addresses that are glue (RFC 9471, 3). *pushed becomes 1. Where the RRset has no room, *pushed becomes 0, the
+ * flag TC is set, and nothing else changes (RFC 2181, 9): smaller RRsets may be pushed after it. The statuses are those
+ * of dnsnames_builder_rrset without NO_ROOM: the message and *pushed are then as they were. */
+dnsnames_status dnsnames_builder_required(dnsnames_builder *builder, uint32_t section, const uint8_t *owner,
+                                          size_t owner_len, uint16_t type, uint16_t class_, uint32_t ttl,
+                                          const uint8_t *data, size_t data_len, const uint16_t *lens,
+                                          size_t lens_len, uint32_t *pushed);
+
+/* The same of an RRset that an answer can do without: where it has no room, *pushed becomes 0, and the message is as it
+ * was, without TC. */
+dnsnames_status dnsnames_builder_extra(dnsnames_builder *builder, uint32_t section, const uint8_t *owner,
+                                       size_t owner_len, uint16_t type, uint16_t class_, uint32_t ttl,
+                                       const uint8_t *data, size_t data_len, const uint16_t *lens, size_t lens_len,
+                                       uint32_t *pushed);
+
+/* Takes away what was pushed after a mark, which is a copy of the builder's state that was made then. The message is what
+ * it was; its identifier, its flags and its limit stay as they are now. NO_BUILDER; NO_MARK where the mark isn't as the
+ * calls leave a state, or has more octets than the message: nothing is changed.
+ *
+ * Void is a mark of another message, one that was made later than a mark that the message went back to, and one that was
+ * made before dnsnames_builder_truncate. No call can tell it from others: then the message can be one that no reader takes.
+ *
+ *     // An RRset and its signatures, both or none.
+ *     dnsnames_builder_state mark = builder.state;
+ *     status = push_rrset(&builder, rrset);
+ *     if (status == DNSNAMES_OK && (status = push_rrset(&builder, signatures)) != DNSNAMES_OK)
+ *         dnsnames_builder_rewind(&builder, &mark);
+ */
+dnsnames_status dnsnames_builder_rewind(dnsnames_builder *builder, const dnsnames_builder_state *mark);
+
 /* Pushes an OPT record into the additional section (RFC 6891, 6.1): how many octets of a message over UDP its sender
  * takes, the upper eight bits of a response code of twelve (code >> 4), the version of EDNS, which is 0, the bit DO
  * where dnssec_ok isn't 0 (RFC 3225, 3), and options in wire format: each a code and a length of 16 bits and its
@@ -702,7 +753,7 @@ static inline const char *dnsnames_strerror(uint32_t status)
     case DNSNAMES_FLAT: return "to be written uncompressed";
     case DNSNAMES_NULL: return "null pointer";
     case DNSNAMES_ABSOLUTE: return "absolute domain name";
-    case DNSNAMES_BAD_LENGTH: return "length larger than its capacity";
+    case DNSNAMES_BAD_LENGTH: return "length larger than its capacity, or lengths of other octets";
     case DNSNAMES_NO_FIELD: return "no such field in data of this type";
     case DNSNAMES_NO_MNEMONIC: return "no name of a type, a class or a code";
     case DNSNAMES_NO_BUILDER: return "no builder, or its message is finished";
@@ -713,6 +764,7 @@ static inline const char *dnsnames_strerror(uint32_t status)
     case DNSNAMES_BAD_FORM: return "an entry hasn't the form of one";
     case DNSNAMES_NO_TEXT: return "the text wasn't made";
     case DNSNAMES_NO_END: return "aliases lead to no name";
+    case DNSNAMES_NO_MARK: return "no mark of this message";
     default: return "unknown status";
     }
 }

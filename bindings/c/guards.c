@@ -80,6 +80,20 @@ uint32_t proved_dnsnames_builder_question(uint8_t *octets, size_t capacity, dnsn
 uint32_t proved_dnsnames_builder_record(uint8_t *octets, size_t capacity, dnsnames_builder_state *state,
                                         uint32_t section, const uint8_t *owner, size_t owner_len, uint16_t type,
                                         uint16_t class_, uint32_t ttl, const uint8_t *data, size_t data_len);
+uint32_t proved_dnsnames_builder_rrset(uint8_t *octets, size_t capacity, dnsnames_builder_state *state,
+                                       uint32_t section, const uint8_t *owner, size_t owner_len, uint16_t type,
+                                       uint16_t class_, uint32_t ttl, const uint8_t *data, size_t data_len,
+                                       const uint16_t *lens, size_t lens_len);
+uint32_t proved_dnsnames_builder_required(uint8_t *octets, size_t capacity, dnsnames_builder_state *state,
+                                          uint32_t section, const uint8_t *owner, size_t owner_len, uint16_t type,
+                                          uint16_t class_, uint32_t ttl, const uint8_t *data, size_t data_len,
+                                          const uint16_t *lens, size_t lens_len, uint32_t *pushed);
+uint32_t proved_dnsnames_builder_extra(uint8_t *octets, size_t capacity, dnsnames_builder_state *state,
+                                       uint32_t section, const uint8_t *owner, size_t owner_len, uint16_t type,
+                                       uint16_t class_, uint32_t ttl, const uint8_t *data, size_t data_len,
+                                       const uint16_t *lens, size_t lens_len, uint32_t *pushed);
+uint32_t proved_dnsnames_builder_rewind(const uint8_t *octets, size_t capacity, dnsnames_builder_state *state,
+                                        const dnsnames_builder_state *mark);
 uint32_t proved_dnsnames_builder_opt(uint8_t *octets, size_t capacity, dnsnames_builder_state *state, uint16_t size,
                                      uint8_t rcode_ext, uint8_t version, uint32_t dnssec_ok, const uint8_t *options,
                                      size_t options_len);
@@ -456,6 +470,63 @@ dnsnames_status dnsnames_builder_record(dnsnames_builder *builder, uint32_t sect
                    proved_dnsnames_builder_record(room_at(builder->octets), builder->capacity, &builder->state,
                                                   section, octets_at(owner), owner_len, type, class_, ttl,
                                                   octets_at(data), data_len));
+}
+
+/* The lengths of data. */
+static const uint16_t *lens_at(const uint16_t *lens)
+{
+    return lens == NULL ? (const uint16_t *)nothing : lens;
+}
+
+/* An RRset of which a pointer is null. */
+static int has_null(const dnsnames_builder *builder, const uint8_t *owner, size_t owner_len, const uint8_t *data,
+                    size_t data_len, const uint16_t *lens, size_t lens_len)
+{
+    return leads_nowhere(builder) || is_null(owner, owner_len) || is_null(data, data_len) || is_null(lens, lens_len);
+}
+
+dnsnames_status dnsnames_builder_rrset(dnsnames_builder *builder, uint32_t section, const uint8_t *owner,
+                                       size_t owner_len, uint16_t type, uint16_t class_, uint32_t ttl,
+                                       const uint8_t *data, size_t data_len, const uint16_t *lens, size_t lens_len)
+{
+    return GUARDED(has_null(builder, owner, owner_len, data, data_len, lens, lens_len),
+                   proved_dnsnames_builder_rrset(room_at(builder->octets), builder->capacity, &builder->state, section,
+                                                 octets_at(owner), owner_len, type, class_, ttl, octets_at(data),
+                                                 data_len, lens_at(lens), lens_len));
+}
+
+dnsnames_status dnsnames_builder_required(dnsnames_builder *builder, uint32_t section, const uint8_t *owner,
+                                          size_t owner_len, uint16_t type, uint16_t class_, uint32_t ttl,
+                                          const uint8_t *data, size_t data_len, const uint16_t *lens,
+                                          size_t lens_len, uint32_t *pushed)
+{
+    return GUARDED(has_null(builder, owner, owner_len, data, data_len, lens, lens_len) || pushed == NULL,
+                   proved_dnsnames_builder_required(room_at(builder->octets), builder->capacity, &builder->state,
+                                                    section, octets_at(owner), owner_len, type, class_, ttl,
+                                                    octets_at(data), data_len, lens_at(lens), lens_len, pushed));
+}
+
+dnsnames_status dnsnames_builder_extra(dnsnames_builder *builder, uint32_t section, const uint8_t *owner,
+                                       size_t owner_len, uint16_t type, uint16_t class_, uint32_t ttl,
+                                       const uint8_t *data, size_t data_len, const uint16_t *lens, size_t lens_len,
+                                       uint32_t *pushed)
+{
+    return GUARDED(has_null(builder, owner, owner_len, data, data_len, lens, lens_len) || pushed == NULL,
+                   proved_dnsnames_builder_extra(room_at(builder->octets), builder->capacity, &builder->state, section,
+                                                 octets_at(owner), owner_len, type, class_, ttl, octets_at(data),
+                                                 data_len, lens_at(lens), lens_len, pushed));
+}
+
+dnsnames_status dnsnames_builder_rewind(dnsnames_builder *builder, const dnsnames_builder_state *mark)
+{
+    dnsnames_builder_state copy;
+
+    if (leads_nowhere(builder) || mark == NULL)
+        return DNSNAMES_NULL;
+    /* The mark may be the builder's own state. */
+    copy = *mark;
+    return (dnsnames_status)proved_dnsnames_builder_rewind(octets_at(builder->octets), builder->capacity,
+                                                           &builder->state, &copy);
 }
 
 dnsnames_status dnsnames_builder_opt(dnsnames_builder *builder, uint16_t size, uint8_t rcode_ext, uint8_t version,

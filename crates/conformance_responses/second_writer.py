@@ -18,8 +18,9 @@ def wire(labels):
 
 
 def with_data(rtype, rrset, owner=None, ttl=None):
-    """An RRset of a section, in place of its text."""
-    return owner or rrset.owner, rtype, rrset.ttl if ttl is None else ttl, sorted(rrset.spellings)
+    """An RRset of a section, in place of its text: its owner, its type, and the TTL and data of each record."""
+    records = [(own if ttl is None else ttl, data) for own, data in rrset.records]
+    return owner or rrset.owner, rtype, records
 
 
 zones.shown = with_data
@@ -114,10 +115,10 @@ class Writer:
         self.name(name)
         self.octets += struct.pack(">HH", rtype, rclass)
 
-    def rrset(self, owner, rtype, ttl, data):
-        for it in data:
+    def rrset(self, owner, rtype, records):
+        for ttl, data in records:
             self.name(zones.labels_of(owner))
-            self.octets += struct.pack(">HHIH", rtype, 1, ttl, len(it)) + it
+            self.octets += struct.pack(">HHIH", rtype, 1, ttl, len(data)) + data
 
 
 def refusal(query):
@@ -168,7 +169,7 @@ def fill(writer, sections, room):
                     return writer, counts, True
                 break
             writer = more
-            counts[section] += len(it[3])
+            counts[section] += len(it[2])
     return writer, counts, False
 
 
@@ -192,7 +193,7 @@ def response(zone, octets, stream, size):
         for it in sections[0]:
             if isinstance(it, str):
                 owner, kind, ttl, target = it.split("/")
-                sections[0][1] = owner, int(kind), int(ttl), [wire(zones.labels_of(target))]
+                sections[0][1] = owner, int(kind), [(int(ttl), wire(zones.labels_of(target)))]
         said = zones.header_of(answer)
         aa, code = "aa=1" in said, int(said.split("rcode=")[1])
         writer, counts, cut = fill(writer, sections, room)

@@ -252,8 +252,7 @@ def told_rows():
     """The rows with headers beside them, which the second writer has to give."""
     for heading, rows, sent, asked in TOLD:
         zone, apex = zones.Zone("example."), "example."
-        rows = [(apex, SOA, drawing.SOA_DATA), (apex, NS, NAME("ns.example.net.")), *rows]
-        records = [(owner, rtype, 3600, data) for owner, rtype, data in rows]
+        records = drawing.records_of(apex, rows)
         for it in records:
             zone.insert(*it)
         for octets, wanted in asked:
@@ -269,8 +268,7 @@ def zone_rows():
     """The zones of the RFCs that the table of zones has, each asked without and with EDNS, and with each octet cut."""
     for heading, apex, rows, asked in drawing.told_rows():
         zone = zones.Zone(apex)
-        rows = [(apex, SOA, drawing.SOA_DATA), (apex, NS, NAME("ns.example.net.")), *rows]
-        records = [(owner, rtype, 3600, data) for owner, rtype, data in rows]
+        records = drawing.records_of(apex, rows)
         for it in records:
             zone.insert(*it)
         sent = [query(*it[:2]) for it in asked] + [query(*it[:2], opts=edns(1232, DO)) for it in asked]

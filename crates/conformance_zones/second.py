@@ -1,6 +1,6 @@
 """A second reader of zones, written from RFC 1034 (4.2.1, 4.3.2), 1035 (3.3.13), 2181 (5, 6, 10.1), 2308 (3), 4034
-(6.1), 4035 (2.4, 2.5, 3.1.4.1), 4592, 5155 (7.2.8), 6672, 6895, 8482 (4.1) and 9471 (3). It keeps a zone as a tree of
-labels and goes down from the apex."""
+(3, 3.1.1, 6.1), 4035 (2.2, 2.4, 2.5, 3.1.4.1), 4592, 5155 (7.2.8), 6672, 6895, 8482 (4.1) and 9471 (3). It keeps a
+zone as a tree of labels and goes down from the apex."""
 
 A, NS, CNAME, SOA, KEY, AAAA, DNAME, OPT, DS, RRSIG, NSEC, NSEC3, ANY = 1, 2, 5, 6, 25, 28, 39, 41, 43, 46, 47, 50, 255
 MOST_OCTETS, MOST_LABEL = 255, 63
@@ -56,15 +56,32 @@ class Node:
             yield from it.walk()
 
 
-class RRset:
-    """The records of one owner and one type: spelling of the owner by data, the TTL, and the data."""
+def covered_by(rtype, data):
+    """The type that an RRSIG covers (RFC 4034, 3.1.1), 0 where its data are too short, and None for another type."""
+    return None if rtype != RRSIG else int.from_bytes(data[:2], "big") if len(data) > 1 else 0
 
-    def __init__(self):
-        self.spellings, self.ttl = {}, None
+
+class RRset:
+    """The records of one owner and one type: spelling of the owner by data, and the TTL. That of an RRSIG is the one of
+    what it covers (RFC 4034, 3; RFC 4035, 2.2), so there is a TTL for each type that is covered."""
+
+    def __init__(self, rtype):
+        self.rtype, self.spellings, self.ttls = rtype, {}, {}
 
     def add(self, owner, ttl, data):
         self.spellings.setdefault(data, owner)
-        self.ttl = ttl if self.ttl is None else min(self.ttl, ttl)
+        covered = covered_by(self.rtype, data)
+        self.ttls[covered] = min(ttl, self.ttls.get(covered, ttl))
+
+    @property
+    def records(self):
+        """The TTL and the data of each record, in the order of the data."""
+        return [(self.ttls[covered_by(self.rtype, it)], it) for it in sorted(self.spellings)]
+
+    @property
+    def ttl(self):
+        """The TTL that all records have. RRSIG records may have others, all of which are shown."""
+        return "+".join(str(ttl) for ttl, _ in self.records) if self.rtype == RRSIG else self.ttls[None]
 
     @property
     def owner(self):
@@ -91,7 +108,7 @@ class Zone:
         node = self.top
         for label in path:
             node = node.below.setdefault(label, Node())
-        node.sets.setdefault(rtype, RRset()).add(owner, ttl, data)
+        node.sets.setdefault(rtype, RRset(rtype)).add(owner, ttl, data)
         return "."
 
     def is_zone(self):

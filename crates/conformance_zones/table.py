@@ -65,6 +65,26 @@ SUBSTITUTIONS = [
     ("x.", ".", "shortloop.x.", "redirect x. shortloop."),
 ]
 
+def rrsig(covered, labels, ttl, signer, signature=b"\0"):
+    """The data of an RRSIG (RFC 4034, 3.1)."""
+    times = bytes.fromhex("7fffffff 00000001")
+    return covered.to_bytes(2, "big") + bytes([8, labels]) + ttl.to_bytes(4, "big") + times + b"\0\1" + name(signer) + signature
+
+
+# A name with an A RRset and an NSEC RRset of other TTLs, and what signs them, as zones are signed: each RRSIG has the
+# TTL of what it covers (RFC 4034, 3). Then two signatures of one RRset, below a wildcard.
+SIGNED = [
+    ("a.t.", A, address("192.0.2.1"), 300),
+    ("a.t.", RRSIG, rrsig(A, 2, 300, "t."), 300),
+    ("a.t.", NSEC, name("t.") + bytes.fromhex("0006 40 00 00 00 00 03"), 60),
+    ("a.t.", RRSIG, rrsig(NSEC, 2, 60, "t."), 60),
+    ("*.w.t.", A, address("192.0.2.2"), 30),
+    ("*.w.t.", RRSIG, rrsig(A, 2, 30, "t.", b"\1"), 30),
+    ("*.w.t.", TXT, text("w"), 900),
+    ("*.w.t.", RRSIG, rrsig(TXT, 2, 900, "t."), 900),
+    ("*.w.t.", RRSIG, rrsig(A, 2, 30, "t.", b"\2"), 30),
+]
+
 # What is asked, by which RFC; the apex; records beside an SOA and a name server at it; questions with their answers.
 TOLD = [
     (
@@ -252,6 +272,36 @@ TOLD = [
             ("a.*.example.com.", A, "name error"),
         ],
     ),
+    (
+        "RFC 4034, 3: an RRSIG has the TTL of the RRset that it covers",
+        "t.",
+        SIGNED,
+        [
+            ("a.t.", RRSIG, "records a.t. 46", "an=a.t./46/300+60/2 ns=- ar=-"),
+            ("a.t.", A, "records a.t. 1", "an=a.t./1/300/1 ns=- ar=-"),
+            ("a.t.", NSEC, "records a.t. 47", "an=a.t./47/60/1 ns=- ar=-"),
+            ("A.W.t.", RRSIG, "synthesized records *.w.t. 46", "an=A.W.t./46/30+30+900/3 ns=- ar=-"),
+        ],
+    ),
+    (
+        "RFC 2181, 5.2, and RFC 4034, 3: TTLs that differ are lowered, those of RRSIGs where they cover the same type",
+        "t.",
+        [
+            ("a.t.", A, address("192.0.2.1"), 300),
+            ("a.t.", A, address("192.0.2.2"), 200),
+            ("a.t.", RRSIG, rrsig(A, 2, 300, "t.", b"\1"), 300),
+            ("a.t.", RRSIG, rrsig(A, 2, 300, "t.", b"\2"), 200),
+            ("a.t.", RRSIG, rrsig(NS, 2, 100, "t."), 100),
+            ("a.t.", RRSIG, b"\1", 50),
+            ("a.t.", RRSIG, b"\0\0", 40),
+            ("a.t.", RRSIG, b"", 60),
+            ("a.t.", RRSIG, b"\1\0", 900),
+        ],
+        [
+            ("a.t.", A, "records a.t. 1", "an=a.t./1/200/2 ns=- ar=-"),
+            ("a.t.", RRSIG, "records a.t. 46", "an=a.t./46/40+40+200+200+100+40+900/7 ns=- ar=-"),
+        ],
+    ),
 ]
 
 # What the drawn zones are made of.
@@ -342,6 +392,12 @@ def line_of(apex, records, questions):
     return f"zone {apex} {shown or '-'} {asked or '-'}"
 
 
+def records_of(apex, rows):
+    """The records of rows, an SOA and a name server at the apex before them. A row without a TTL has 3600."""
+    rows = [(apex, SOA, SOA_DATA), (apex, NS, name("ns.example.net.")), *rows]
+    return [(owner, rtype, ttl[0] if ttl else 3600, data) for owner, rtype, data, *ttl in rows]
+
+
 def told_rows():
     """The rows with answers beside them: the heading, the zone's records, and the questions with their answers."""
     for heading, apex, rows, questions in TOLD:
@@ -357,8 +413,7 @@ def main():
             heading = topic
             lines.append(f"# {topic}")
             answers.append(f"# {topic}")
-        rows = [(apex, SOA, SOA_DATA), (apex, NS, name("ns.example.net.")), *rows]
-        records = [(owner, rtype, 3600, data) for owner, rtype, data in rows]
+        records = records_of(apex, rows)
         said = second.answers(apex, records, [it[:2] for it in questions])
         for shown, (asked, rtype, *wanted) in zip(said.split("; ")[1:], questions):
             outcome, sections = shown.split(" ", 4)[4].split(" an=")

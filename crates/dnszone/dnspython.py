@@ -12,10 +12,14 @@ import dns.zone
 
 
 def text_of(data):
-    """The text of data, base64 in one word, and an IPv6 address as RFC 5952 has it: dnspython keeps its spelling."""
+    """The text of data, base64 in one word, an IPv6 address as RFC 5952 has it, where dnspython keeps its spelling, and
+    the times of an RRSIG in seconds (RFC 4034, 3.2)."""
     if data.rdtype == dns.rdatatype.AAAA:
         return str(ipaddress.IPv6Address(data.address))
-    return data.to_text(chunksize=0)
+    words = data.to_text(chunksize=0).split(" ")
+    if data.rdtype == dns.rdatatype.RRSIG:
+        words[4:6] = str(data.expiration), str(data.inception)
+    return " ".join(words)
 
 
 def lines(path):
@@ -24,7 +28,7 @@ def lines(path):
     origin = next(it.split()[1] for it in text.splitlines() if it.startswith("$ORIGIN"))
     zone = dns.zone.from_text(text, origin=origin, relativize=False)
     for name in sorted(zone.nodes, key=lambda it: [label.lower() for label in reversed(it.labels)]):
-        for rdataset in sorted(zone.nodes[name], key=lambda it: it.rdtype):
+        for rdataset in sorted(zone.nodes[name], key=lambda it: (it.rdtype, it.covers)):
             kind = dns.rdatatype.to_text(rdataset.rdtype)
             for data in sorted(rdataset, key=lambda it: it.to_wire(origin=dns.name.root)):
                 yield f"{name} {rdataset.ttl} IN {kind} {text_of(data)}"

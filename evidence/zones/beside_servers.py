@@ -206,6 +206,15 @@ class Case:
         types = ({rtype for owner, rtype, _, _ in self.records if owner.lower() == it} for it in names)
         return next((it for it in types if it), set())
 
+    def ttls_of(self, owner):
+        """The TTLs of the RRSIG records of the name, by the type that they cover, which is the first two octets of
+        their data (RFC 4034, 3 and 3.1.1)."""
+        ttls = {}
+        for name, rtype, ttl, data in self.records:
+            if (name.lower(), rtype) == (owner.lower(), RRSIG):
+                ttls.setdefault(int.from_bytes(data[:2], "big"), set()).add(ttl)
+        return ttls
+
     def data_of(self, owner, rtype):
         """The data of the RRset, as dnspython has it."""
         octets = {data for name, it, _, data in self.records if (name.lower(), it) == (owner.lower(), rtype)}
@@ -246,7 +255,7 @@ def valid_data(rtype, data, apex):
         return bytes.fromhex("0001 08 02") + some
     if rtype == KEY:
         return bytes.fromhex("0000 03 08") + some
-    if rtype == RRSIG:
+    if rtype == RRSIG and not is_data(RRSIG, data):
         return bytes.fromhex(f"0001 08 {labels:02x} 00000000 7fffffff 00000001 0001") + signer + some
     if rtype == NSEC:
         return signer + bytes.fromhex("00 05 00000000") + bytes([1 << some[0] % 8])
@@ -308,8 +317,10 @@ def agrees(case, asked, came):
     if head != asked.head:
         return False
     if kind == "records":
-        is_alone = len(found) == len(came.answer) == 1 and found[0].rdtype == int(rest[1])
-        return is_alone and set(found[0]) == case.data_of(*rest[:1], int(rest[1]))
+        owner, rtype = rest[0], int(rest[1])
+        are_alone = len(found) == len(came.answer) > 0 and {int(it.rdtype) for it in found} == {rtype}
+        data = {data for it in found for data in it}
+        return are_alone and data == case.data_of(owner, rtype) and (rtype != RRSIG or has_ttls(case, owner, found))
     if kind == "any":
         return len(found) == len(came.answer) > 0
     if kind == "too":
@@ -321,6 +332,12 @@ def agrees(case, asked, came):
         return servers == owned(came.authority, rest[0]) and set(servers[0]) == case.data_of(rest[0], NS)
     # Out of the zone nothing more is asked. No data and a name error show the zone's SOA (RFC 2308, 2 and 3).
     return kind == "out" or fronts([it for it in came.authority if it.rdtype == SOA]) == fronts_of(asked.authority)
+
+
+def has_ttls(case, owner, found):
+    """Whether RRSIG records have the TTL of those in the zone that cover the same type, where these have one TTL."""
+    ttls = case.ttls_of(owner)
+    return all(len(ttls[int(it.covers)]) > 1 or ttls[int(it.covers)] == {it.ttl} for it in found)
 
 
 def fronts(section):
@@ -414,8 +431,8 @@ def page(trials, cases, left, versions):
         f"table, each loaded into each server, and {asked:,} questions to them. {left} zones are left out: the data "
         "of an NS record there is no name, which the table doesn't ask for and no server loads.",
         "A response agrees where these are as in the table: its AA bit, its response code, the RRsets that the answer "
-        "names, with their data, and the TTL of a negative SOA. What follows after an alias isn't "
-        "compared. The last column is the referrals with the same addresses in the additional section. The table's "
+        "names, with their data, the TTLs of RRSIG records, and the TTL of a negative SOA. What follows after an alias "
+        "isn't compared. The last column is the referrals with the same addresses in the additional section. The table's "
         "have all that the zone has at the name servers (RFC 1034, 4.3.2, step 3b; RFC 9471, 3). NSD and Knot DNS "
         "also make some from a wildcard, and BIND leaves out those that aren't below the cut.",
     ]

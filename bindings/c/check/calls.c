@@ -1256,6 +1256,126 @@ static void building_refused(void)
     CHECK(size == 77);
 }
 
+/* Two addresses, and their lengths. */
+static const uint8_t addresses[8] = {192, 0, 2, 1, 192, 0, 2, 2};
+static const uint16_t both[2] = {4, 4};
+
+/* The addresses of a.example as an RRset. */
+#define RRSET(call, builder, section, ...) \
+    call(builder, section, NAME("\1a\7example"), DNSNAMES_TYPE_A, DNSNAMES_CLASS_IN, 60, addresses, 8, both, 2 __VA_ARGS__)
+#define AND(pushed) , pushed
+
+/* As it was before a refused call, but for what the buffer has after the message. */
+#define MESSAGE_STAYS(status, builder, call)                     \
+    do {                                                         \
+        uint8_t message[512];                                    \
+        dnsnames_builder_state before = (builder).state;         \
+                                                                 \
+        memcpy(message, (builder).octets, before.len);           \
+        CHECK((call) == (status));                               \
+        CHECK(same_states(&before, &(builder).state));           \
+        CHECK(memcmp(message, (builder).octets, before.len) == 0); \
+    } while (0)
+
+/* RRsets of two records at each limit: both, or none; TC exactly where a required one has no room. */
+static void building_rrsets(void)
+{
+    static const uint8_t built[] =
+        "\1a\7example\0" "\0\1\0\1\0\0\0\74\0\4\300\0\2\1" "\300\14\0\1\0\1\0\0\0\74\0\4\300\0\2\2";
+    size_t whole = 12 + sizeof built - 1, limit, size;
+    uint32_t pushed;
+    dnsnames_builder builder = begun(512);
+
+    CHECK(RRSET(dnsnames_builder_rrset, &builder, DNSNAMES_ANSWER, ) == DNSNAMES_OK);
+    CHECK(builder.state.len == whole && builder.state.answers == 2 && memcmp(buffer + 12, built, whole - 12) == 0);
+    for (limit = 12; limit < whole; limit++) {
+        builder = begun(512);
+        builder.state.limit = limit;
+        MESSAGE_STAYS(DNSNAMES_NO_ROOM, builder, RRSET(dnsnames_builder_rrset, &builder, DNSNAMES_ANSWER, ));
+        pushed = 77;
+        MESSAGE_STAYS(DNSNAMES_OK, builder, RRSET(dnsnames_builder_extra, &builder, DNSNAMES_ANSWER, AND(&pushed)));
+        CHECK(pushed == 0);
+        pushed = 77;
+        CHECK(RRSET(dnsnames_builder_required, &builder, DNSNAMES_ANSWER, AND(&pushed)) == DNSNAMES_OK && pushed == 0);
+        CHECK(builder.state.flags == (DNSNAMES_FLAG_RD | DNSNAMES_FLAG_TC));
+        builder.state.flags = DNSNAMES_FLAG_RD;
+        MESSAGE_STAYS(DNSNAMES_NO_ROOM, builder, RRSET(dnsnames_builder_rrset, &builder, DNSNAMES_ANSWER, ));
+        CHECK(builder.state.len == 12 && builder.state.answers == 0);
+    }
+    builder.state.limit = whole;
+    CHECK(RRSET(dnsnames_builder_required, &builder, DNSNAMES_ANSWER, AND(&pushed)) == DNSNAMES_OK && pushed == 1);
+    CHECK(builder.state.flags == DNSNAMES_FLAG_RD && memcmp(buffer + 12, built, whole - 12) == 0);
+    pushed = 77;
+    CHECK(RRSET(dnsnames_builder_extra, &builder, DNSNAMES_ADDITIONAL, AND(&pushed)) == DNSNAMES_OK && pushed == 0);
+    builder.state.limit = 512;
+    CHECK(RRSET(dnsnames_builder_extra, &builder, DNSNAMES_ADDITIONAL, AND(&pushed)) == DNSNAMES_OK && pushed == 1);
+    CHECK(builder.state.flags == DNSNAMES_FLAG_RD && builder.state.additional == 2);
+    CHECK(dnsnames_builder_finish(&builder, &size) == DNSNAMES_OK && size == whole + 32);
+}
+
+static void rrsets_refused(void)
+{
+    static const uint16_t long_one[2] = {4, 5}, short_one[2] = {4, 3};
+    dnsnames_builder builder = begun(512);
+    uint32_t pushed = 77;
+
+    STAYS(DNSNAMES_OK, builder, dnsnames_builder_rrset(&builder, 1, NAME("\1a"), 1, 1, 0, NULL, 0, NULL, 0));
+    STAYS(DNSNAMES_BAD_LENGTH, builder, dnsnames_builder_rrset(&builder, 1, NAME("\1a"), 1, 1, 0, addresses, 8, long_one, 2));
+    STAYS(DNSNAMES_BAD_LENGTH, builder, dnsnames_builder_rrset(&builder, 1, NAME("\1a"), 1, 1, 0, addresses, 8, short_one, 2));
+    STAYS(DNSNAMES_BAD_LENGTH, builder, dnsnames_builder_rrset(&builder, 1, NAME("\1a"), 1, 1, 0, addresses, 8, both, 1));
+    STAYS(DNSNAMES_BAD_LENGTH, builder,
+          dnsnames_builder_required(&builder, 1, NAME("\1a"), 1, 1, 0, addresses, 8, both, 1, &pushed));
+    STAYS(DNSNAMES_NO_SECTION, builder, RRSET(dnsnames_builder_rrset, &builder, 0, ));
+    STAYS(DNSNAMES_NO_SECTION, builder, RRSET(dnsnames_builder_extra, &builder, 4, AND(&pushed)));
+    STAYS(DNSNAMES_NO_NAME, builder, dnsnames_builder_rrset(&builder, 1, SPELLED("\1a"), 1, 1, 0, NULL, 0, NULL, 0));
+    CHECK(RRSET(dnsnames_builder_rrset, &builder, DNSNAMES_AUTHORITY, ) == DNSNAMES_OK);
+    MESSAGE_STAYS(DNSNAMES_WRONG_ORDER, builder, RRSET(dnsnames_builder_required, &builder, DNSNAMES_ANSWER, AND(&pushed)));
+    MESSAGE_STAYS(DNSNAMES_WRONG_ORDER, builder, RRSET(dnsnames_builder_extra, &builder, DNSNAMES_ANSWER, AND(&pushed)));
+    builder.state.authority = 65534;
+    MESSAGE_STAYS(DNSNAMES_TOO_MANY_ENTRIES, builder, RRSET(dnsnames_builder_required, &builder, DNSNAMES_AUTHORITY, AND(&pushed)));
+    buffer[11] = 0;
+    STAYS(DNSNAMES_NO_BUILDER, builder, RRSET(dnsnames_builder_rrset, &builder, DNSNAMES_ADDITIONAL, ));
+    CHECK(pushed == 77);
+}
+
+/* Back to a mark, with the flags and the limit of now; and marks that are none. */
+static void going_back(void)
+{
+    dnsnames_builder builder = begun(512), other;
+    dnsnames_builder_state mark, longer, wanted;
+    size_t i;
+
+    CHECK(dnsnames_builder_question(&builder, NAME("\1a"), 1, 1) == DNSNAMES_OK);
+    mark = wanted = builder.state;
+    CHECK(RRSET(dnsnames_builder_rrset, &builder, DNSNAMES_ANSWER, ) == DNSNAMES_OK);
+    longer = builder.state;
+    CHECK(RRSET(dnsnames_builder_rrset, &builder, DNSNAMES_ADDITIONAL, ) == DNSNAMES_OK);
+    builder.state.flags = wanted.flags = DNSNAMES_FLAG_QR;
+    builder.state.limit = wanted.limit = 300;
+    CHECK(dnsnames_builder_rewind(&builder, &mark) == DNSNAMES_OK && same_states(&builder.state, &wanted));
+    STAYS(DNSNAMES_NO_MARK, builder, dnsnames_builder_rewind(&builder, &longer));
+    STAYS(DNSNAMES_OK, builder, dnsnames_builder_rewind(&builder, &builder.state));
+    CHECK(RRSET(dnsnames_builder_rrset, &builder, DNSNAMES_ANSWER, ) == DNSNAMES_OK);
+    CHECK(dnsnames_builder_rewind(&builder, &longer) == DNSNAMES_OK && builder.state.len == longer.len);
+    for (i = 0; i < 5; i++) {
+        longer = mark;
+        if (i == 0)
+            longer.answer_start = 11;
+        else if (i == 1)
+            longer.answer_start = longer.authority_start + 1;
+        else if (i == 2)
+            longer.additional_start = longer.len + 1;
+        else if (i == 3)
+            longer.table_len = DNSNAMES_MAX_TABLE + 1;
+        else
+            longer.table[0] = 16384;
+        STAYS(DNSNAMES_NO_MARK, builder, dnsnames_builder_rewind(&builder, &longer));
+    }
+    other = builder;
+    other.state.len = other.state.limit + 1;
+    STAYS(DNSNAMES_NO_BUILDER, other, dnsnames_builder_rewind(&other, &mark));
+}
+
 /* Data that are as large as a message may be, and one octet more; a buffer that is larger than any message. */
 static void building_large(void)
 {
@@ -1275,7 +1395,7 @@ static void statuses(void)
 {
     uint32_t i, k;
 
-    for (i = 0; i <= DNSNAMES_NO_SECTION; i++) {
+    for (i = 0; i <= DNSNAMES_NO_MARK; i++) {
         CHECK(dnsnames_strerror(i) != NULL && dnsnames_strerror(i)[0] != 0);
         for (k = 0; k < i; k++)
             CHECK(strcmp(dnsnames_strerror(i), dnsnames_strerror(k)) != 0);
@@ -1310,6 +1430,9 @@ int main(void)
     building_names();
     building_glue();
     building_refused();
+    building_rrsets();
+    rrsets_refused();
+    going_back();
     building_large();
     statuses();
     return told("worked cases and refusals");

@@ -94,6 +94,15 @@ no name of a type, a class or a code' out/ask a.b MXX
 is answer 0 '123481800001000100000000076578616d706c6503636f6d00000f0001c00c000f000100000e100009000a046d61696cc00c
 example.com. 3600 MX 10 mail.example.com.' out/answer
 
+# As dnspython writes the same RRsets.
+asked=0377777703737562076578616d706c6503636f6d0000010001
+servers=c0100002000100000e100006036e7331c010c0100002000100000e100010026e73076578616d706c65036e657400
+glue=c0310001000100000e100004c0000201
+is referral 0 123480000001000000020002$asked$servers${glue}c0430001000100000e100004c0000202 out/referral 115
+is 'referral, without what it can do without' 0 123480000001000000020001$asked$servers$glue out/referral 114
+is 'referral, without its glue' 0 123482000001000000020000$asked$servers out/referral 98
+is 'referral, without its name servers' 0 123482000001000000000000$asked out/referral 82
+
 printf '03777777 00\nc000\n0377\n\n0g\n' > out/lines
 out/tell_hex < out/lines > out/told
 grep -q '^www\.$' out/told && [ "$(grep -c '^refused' out/told)" -eq 4 ] || {

@@ -18,6 +18,7 @@ static int32_t order;
 static uint64_t hash;
 static dnsnames_opt_fields opt;
 static dnsnames_builder builder;
+static const dnsnames_builder_state place;
 
 /* What a refused call must leave. */
 static void mark(void)
@@ -212,6 +213,10 @@ static void builders(void)
     NULLED(dnsnames_builder_opt(NULL, 512, 0, 0, 0, NULL, 0));
     NULLED(dnsnames_builder_truncate(NULL));
     NULLED(dnsnames_builder_finish(NULL, &length));
+    NULLED(dnsnames_builder_rrset(NULL, 1, NAME, sizeof NAME, 1, 1, 0, NULL, 0, NULL, 0));
+    NULLED(dnsnames_builder_required(NULL, 1, NAME, sizeof NAME, 1, 1, 0, NULL, 0, NULL, 0, &flag));
+    NULLED(dnsnames_builder_extra(NULL, 1, NAME, sizeof NAME, 1, 1, 0, NULL, 0, NULL, 0, &flag));
+    NULLED(dnsnames_builder_rewind(NULL, &place));
     builder.octets = NULL;
     builder.capacity = 0;
     REFUSES(DNSNAMES_NO_BUILDER, dnsnames_builder_question(&builder, NAME, sizeof NAME, 1, 1));
@@ -219,12 +224,20 @@ static void builders(void)
     REFUSES(DNSNAMES_NO_BUILDER, dnsnames_builder_opt(&builder, 512, 0, 0, 0, NULL, 0));
     REFUSES(DNSNAMES_NO_BUILDER, dnsnames_builder_truncate(&builder));
     REFUSES(DNSNAMES_NO_BUILDER, dnsnames_builder_finish(&builder, &length));
+    REFUSES(DNSNAMES_NO_BUILDER, dnsnames_builder_rrset(&builder, 1, NAME, sizeof NAME, 1, 1, 0, NULL, 0, NULL, 0));
+    REFUSES(DNSNAMES_NO_BUILDER, dnsnames_builder_required(&builder, 1, NAME, sizeof NAME, 1, 1, 0, NULL, 0, NULL, 0, &flag));
+    REFUSES(DNSNAMES_NO_BUILDER, dnsnames_builder_extra(&builder, 1, NAME, sizeof NAME, 1, 1, 0, NULL, 0, NULL, 0, &flag));
+    REFUSES(DNSNAMES_NO_BUILDER, dnsnames_builder_rewind(&builder, &place));
     builder.capacity = 1;
     NULLED(dnsnames_builder_question(&builder, NAME, sizeof NAME, 1, 1));
     NULLED(dnsnames_builder_record(&builder, 1, NAME, sizeof NAME, 1, 1, 0, NULL, 0));
     NULLED(dnsnames_builder_opt(&builder, 512, 0, 0, 0, NULL, 0));
     NULLED(dnsnames_builder_truncate(&builder));
     NULLED(dnsnames_builder_finish(&builder, &length));
+    NULLED(dnsnames_builder_rrset(&builder, 1, NAME, sizeof NAME, 1, 1, 0, NULL, 0, NULL, 0));
+    NULLED(dnsnames_builder_required(&builder, 1, NAME, sizeof NAME, 1, 1, 0, NULL, 0, NULL, 0, &flag));
+    NULLED(dnsnames_builder_extra(&builder, 1, NAME, sizeof NAME, 1, 1, 0, NULL, 0, NULL, 0, &flag));
+    NULLED(dnsnames_builder_rewind(&builder, &place));
     builder.octets = buffer;
     builder.capacity = sizeof buffer;
     NULLED(dnsnames_builder_question(&builder, NONE, 1, 1, 1));
@@ -232,6 +245,27 @@ static void builders(void)
     NULLED(dnsnames_builder_record(&builder, 1, NAME, sizeof NAME, 1, 1, 0, NONE, 1));
     NULLED(dnsnames_builder_opt(&builder, 512, 0, 0, 0, NONE, 1));
     NULLED(dnsnames_builder_finish(&builder, NULL));
+    NULLED(dnsnames_builder_rewind(&builder, NULL));
+}
+
+/* So are RRsets of which a pointer is. */
+static void rrsets(void)
+{
+    static const uint16_t lens[1] = {0};
+
+    builder.octets = buffer;
+    builder.capacity = sizeof buffer;
+    NULLED(dnsnames_builder_rrset(&builder, 1, NONE, 1, 1, 1, 0, NULL, 0, lens, 1));
+    NULLED(dnsnames_builder_rrset(&builder, 1, NAME, sizeof NAME, 1, 1, 0, NONE, 1, lens, 1));
+    NULLED(dnsnames_builder_rrset(&builder, 1, NAME, sizeof NAME, 1, 1, 0, NULL, 0, NULL, 1));
+    NULLED(dnsnames_builder_required(&builder, 1, NONE, 1, 1, 1, 0, NULL, 0, lens, 1, &flag));
+    NULLED(dnsnames_builder_required(&builder, 1, NAME, sizeof NAME, 1, 1, 0, NONE, 1, lens, 1, &flag));
+    NULLED(dnsnames_builder_required(&builder, 1, NAME, sizeof NAME, 1, 1, 0, NULL, 0, NULL, 1, &flag));
+    NULLED(dnsnames_builder_required(&builder, 1, NAME, sizeof NAME, 1, 1, 0, NULL, 0, lens, 1, NULL));
+    NULLED(dnsnames_builder_extra(&builder, 1, NONE, 1, 1, 1, 0, NULL, 0, lens, 1, &flag));
+    NULLED(dnsnames_builder_extra(&builder, 1, NAME, sizeof NAME, 1, 1, 0, NONE, 1, lens, 1, &flag));
+    NULLED(dnsnames_builder_extra(&builder, 1, NAME, sizeof NAME, 1, 1, 0, NULL, 0, NULL, 1, &flag));
+    NULLED(dnsnames_builder_extra(&builder, 1, NAME, sizeof NAME, 1, 1, 0, NULL, 0, lens, 1, NULL));
 }
 
 /* So is one where a result is to go. */
@@ -297,6 +331,7 @@ int main(void)
     no_buffer();
     slices();
     builders();
+    rrsets();
     results();
     return told("calls with null pointers");
 }

@@ -287,6 +287,71 @@ static void ask_to_build(uint8_t names[][255], const size_t *lens, size_t count)
     CHECK(memcmp(octets[0], octets[1], sizeof octets[0]) == 0);
 }
 
+/* Pushes an RRset of a few equal data on each side, by the call of this number. */
+static void push_rrsets(dnsnames_builder *builder, uint32_t call, uint8_t names[][255], const size_t *lens, size_t count)
+{
+    static uint8_t data[3 * 600];
+    uint32_t section = random_below(8) == 0 ? random_below(6) : 1 + random_below(3), status[2], pushed[2] = {77, 77}, side;
+    size_t k = random_below((uint32_t)count), datas = random_below(4), len = lens[k] - random_below(30) / 29, i, size;
+    uint16_t type, each[3];
+
+    size = fields_of(&type, data, names, lens, count);
+    for (i = 0; i < 3; i++) {
+        memcpy(data + i * size, data, size);
+        each[i] = (uint16_t)size;
+    }
+    if (random_below(12) == 0)
+        each[random_below(3)]++;
+#define PUSH(side, call, ...) \
+    side##_builder_##call(b, section, names[k], len, type, 1, 60, data, datas * size, each, datas __VA_ARGS__)
+#define AND(pushed) , pushed
+    for (side = 0; side < 2; side++) {
+        dnsnames_builder *b = &builder[side];
+        if (call == 0)
+            status[side] = side == 0 ? PUSH(dnsnames, rrset, ) : PUSH(second, rrset, );
+        else if (call == 1)
+            status[side] = side == 0 ? PUSH(dnsnames, extra, AND(&pushed[0])) : PUSH(second, extra, AND(&pushed[1]));
+        else
+            status[side] = side == 0 ? PUSH(dnsnames, required, AND(&pushed[0])) : PUSH(second, required, AND(&pushed[1]));
+    }
+    CHECK(status[0] == status[1] && pushed[0] == pushed[1]);
+}
+
+/* Pushes RRsets in turn on both sides, and goes back to marks, some of which are none; both keep octets and builder. */
+static void ask_for_rrsets(uint8_t names[][255], const size_t *lens, size_t count)
+{
+    static uint8_t octets[2][700];
+    dnsnames_builder builder[2];
+    dnsnames_builder_state mark[2];
+    size_t capacity = random_below(3) == 0 ? sizeof octets[0] : 12 + random_below(200), turns = random_below(12), at;
+    uint32_t status[2], side;
+
+    memset(octets, 0x5a, sizeof octets);
+    memset(builder, 0, sizeof builder);
+    dnsnames_builder_start(&builder[0], octets[0], capacity, 7, 0x0100);
+    second_builder_start(&builder[1], octets[1], capacity, 7, 0x0100);
+    memset(mark, 0, sizeof mark);
+    while (turns-- > 0) {
+        uint32_t call = random_below(9);
+        if (call < 7) {
+            push_rrsets(builder, call / 2, names, lens, count);
+        } else if (call == 7) {
+            mark[0] = builder[0].state;
+            mark[1] = builder[1].state;
+            at = random_below(20 * (uint32_t)sizeof mark[0]);
+            for (side = 0; side < 2 && at < sizeof mark[0]; side++)
+                ((uint8_t *)&mark[side])[at] ^= (uint8_t)(1u << at % 8);
+        } else {
+            status[0] = dnsnames_builder_rewind(&builder[0], &mark[0]);
+            status[1] = second_builder_rewind(&builder[1], &mark[1]);
+            CHECK(status[0] == status[1]);
+        }
+        CHECK(same_states(&builder[0].state, &builder[1].state));
+        CHECK(memcmp(octets[0], octets[1], builder[0].state.len) == 0);
+        CHECK(memcmp(octets[0] + capacity, octets[1] + capacity, sizeof octets[0] - capacity) == 0);
+    }
+}
+
 /* Strings and options of data that begin at an offset, up to the first that is none, and what an OPT record says. */
 static void ask_of_parts(const uint8_t *message, size_t len, size_t offset)
 {
@@ -465,6 +530,7 @@ static void ask_of_message(const uint8_t *message, size_t len)
     if (count > 0) {
         ask_to_append(names, lens, count);
         ask_to_build(names, lens, count);
+        ask_for_rrsets(names, lens, count);
     }
     ask_of_table(message, len);
 }

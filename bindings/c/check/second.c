@@ -964,20 +964,28 @@ static void put16(uint8_t *octets, uint32_t number)
     octets[1] = (uint8_t)number;
 }
 
+/* Whether a state's sections and offsets are as a call left them. */
+static int is_place(const dnsnames_builder_state *s)
+{
+    size_t i;
+
+    if (s->answer_start < 12 || s->authority_start < s->answer_start || s->additional_start < s->authority_start ||
+        s->len < s->additional_start || s->table_len > DNSNAMES_MAX_TABLE)
+        return 0;
+    for (i = 0; i < s->table_len; i++)
+        if (s->table[i] >= 16384)
+            return 0;
+    return 1;
+}
+
 /* Whether the builder is as a call left it. */
 static int is_built(const dnsnames_builder *builder)
 {
     const dnsnames_builder_state *s = &builder->state;
     size_t i;
 
-    if (s->limit > builder->capacity || s->limit > 65535 || s->len > s->limit || s->table_len > DNSNAMES_MAX_TABLE)
+    if (s->limit > builder->capacity || s->limit > 65535 || s->len > s->limit || !is_place(s))
         return 0;
-    if (s->answer_start < 12 || s->authority_start < s->answer_start || s->additional_start < s->authority_start ||
-        s->len < s->additional_start)
-        return 0;
-    for (i = 0; i < s->table_len; i++)
-        if (s->table[i] >= 16384)
-            return 0;
     for (i = 0; i < 12; i++)
         if (builder->octets[i] != 128)
             return 0;
@@ -1156,6 +1164,72 @@ uint32_t SECOND(builder_record)(dnsnames_builder *builder, uint32_t section, con
     if (SECOND(check)(owner, owner_len) != DNSNAMES_OK)
         return DNSNAMES_NO_NAME;
     return build_record(builder, section, owner, owner_len, type, class_, ttl, data, data_len);
+}
+
+uint32_t SECOND(builder_rrset)(dnsnames_builder *builder, uint32_t section, const uint8_t *owner, size_t owner_len,
+                               uint16_t type, uint16_t class_, uint32_t ttl, const uint8_t *data, size_t data_len,
+                               const uint16_t *lens, size_t lens_len)
+{
+    dnsnames_builder_state before = builder->state;
+    uint32_t status = DNSNAMES_OK;
+    size_t k, sum = 0;
+
+    if (!is_built(builder))
+        return DNSNAMES_NO_BUILDER;
+    if (section < 1 || section > 3)
+        return DNSNAMES_NO_SECTION;
+    if (SECOND(check)(owner, owner_len) != DNSNAMES_OK)
+        return DNSNAMES_NO_NAME;
+    for (k = 0; k < lens_len; k++)
+        sum += lens[k];
+    if (sum != data_len)
+        return DNSNAMES_BAD_LENGTH;
+    for (k = 0; k < lens_len && status == DNSNAMES_OK; data += lens[k++])
+        status = build_record(builder, section, owner, owner_len, type, class_, ttl, data, lens[k]);
+    if (status != DNSNAMES_OK)
+        builder->state = before;
+    return status;
+}
+
+uint32_t SECOND(builder_extra)(dnsnames_builder *builder, uint32_t section, const uint8_t *owner, size_t owner_len,
+                               uint16_t type, uint16_t class_, uint32_t ttl, const uint8_t *data, size_t data_len,
+                               const uint16_t *lens, size_t lens_len, uint32_t *pushed)
+{
+    uint32_t status = SECOND(builder_rrset)(builder, section, owner, owner_len, type, class_, ttl, data, data_len,
+                                            lens, lens_len);
+
+    if (status != DNSNAMES_OK && status != DNSNAMES_NO_ROOM)
+        return status;
+    *pushed = status == DNSNAMES_OK;
+    return DNSNAMES_OK;
+}
+
+uint32_t SECOND(builder_required)(dnsnames_builder *builder, uint32_t section, const uint8_t *owner,
+                                  size_t owner_len, uint16_t type, uint16_t class_, uint32_t ttl,
+                                  const uint8_t *data, size_t data_len, const uint16_t *lens, size_t lens_len,
+                                  uint32_t *pushed)
+{
+    uint32_t status = SECOND(builder_extra)(builder, section, owner, owner_len, type, class_, ttl, data, data_len,
+                                            lens, lens_len, pushed);
+
+    if (status == DNSNAMES_OK && !*pushed)
+        builder->state.flags |= DNSNAMES_FLAG_TC;
+    return status;
+}
+
+uint32_t SECOND(builder_rewind)(dnsnames_builder *builder, const dnsnames_builder_state *mark)
+{
+    dnsnames_builder_state now = builder->state;
+
+    if (!is_built(builder))
+        return DNSNAMES_NO_BUILDER;
+    if (mark->len > now.len || !is_place(mark))
+        return DNSNAMES_NO_MARK;
+    builder->state = *mark;
+    builder->state.limit = now.limit;
+    builder->state.id = now.id;
+    builder->state.flags = now.flags;
+    return DNSNAMES_OK;
 }
 
 uint32_t SECOND(builder_opt)(dnsnames_builder *builder, uint16_t size, uint8_t rcode_ext, uint8_t version,

@@ -64,6 +64,17 @@ uint32_t SECOND(builder_question)(dnsnames_builder *builder, const uint8_t *name
                                   uint16_t class_);
 uint32_t SECOND(builder_record)(dnsnames_builder *builder, uint32_t section, const uint8_t *owner, size_t owner_len,
                                 uint16_t type, uint16_t class_, uint32_t ttl, const uint8_t *data, size_t data_len);
+uint32_t SECOND(builder_rrset)(dnsnames_builder *builder, uint32_t section, const uint8_t *owner, size_t owner_len,
+                               uint16_t type, uint16_t class_, uint32_t ttl, const uint8_t *data, size_t data_len,
+                               const uint16_t *lens, size_t lens_len);
+uint32_t SECOND(builder_required)(dnsnames_builder *builder, uint32_t section, const uint8_t *owner,
+                                  size_t owner_len, uint16_t type, uint16_t class_, uint32_t ttl,
+                                  const uint8_t *data, size_t data_len, const uint16_t *lens, size_t lens_len,
+                                  uint32_t *pushed);
+uint32_t SECOND(builder_extra)(dnsnames_builder *builder, uint32_t section, const uint8_t *owner, size_t owner_len,
+                               uint16_t type, uint16_t class_, uint32_t ttl, const uint8_t *data, size_t data_len,
+                               const uint16_t *lens, size_t lens_len, uint32_t *pushed);
+uint32_t SECOND(builder_rewind)(dnsnames_builder *builder, const dnsnames_builder_state *mark);
 uint32_t SECOND(builder_opt)(dnsnames_builder *builder, uint16_t size, uint8_t rcode_ext, uint8_t version,
                              uint32_t dnssec_ok, const uint8_t *options, size_t options_len);
 uint32_t SECOND(builder_truncate)(dnsnames_builder *builder);

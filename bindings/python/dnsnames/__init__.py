@@ -18,7 +18,7 @@ from ._library import (
     NoBuilder, NoField, NoLabel, NoMnemonic, NoRoom, RelativeName, ShortInput, TooManyEntries, TooManyPointers,
     TrailingData, WrongOrder,
 )
-from ._builder import MessageBuilder
+from ._builder import Mark, MessageBuilder
 from ._message import Composer, EdnsOption, Header, Message, Opt, Question, Record
 from ._mnemonic import Class, Flags, Opcode, Rcode, Type
 from ._name import Name, Reading, read, skip
@@ -27,16 +27,16 @@ for _public in (
     BadEscape, BadForm, BadLabelType, BadSymbol, BinaryLabel, CompressedName, DnsError, EmptyLabel, LongLabel, LongName,
     NoBuilder, NoField, NoLabel, NoMnemonic, NoRoom, RelativeName, ShortInput, TooManyEntries, TooManyPointers,
     TrailingData, WrongOrder,
-    MessageBuilder, Class, Flags, Opcode, Rcode, Type, Composer, EdnsOption, Header, Message, Opt, Question, Record,
-    Name, Reading, read, skip,
+    Mark, MessageBuilder, Class, Flags, Opcode, Rcode, Type, Composer, EdnsOption, Header, Message, Opt, Question,
+    Record, Name, Reading, read, skip,
 ):
     _public.__module__ = __name__
 del _public
 
 __all__ = [
     "BadEscape", "BadForm", "BadLabelType", "BadSymbol", "BinaryLabel", "Class", "Composer", "CompressedName",
-    "DnsError", "EdnsOption", "EmptyLabel", "Flags", "Header", "LongLabel", "LongName", "Message", "MessageBuilder",
-    "Name", "NoBuilder", "NoField", "NoLabel", "NoMnemonic", "NoRoom", "Opcode", "Opt", "Question", "Rcode", "Reading",
-    "Record", "RelativeName", "ShortInput", "TooManyEntries", "TooManyPointers", "TrailingData", "Type", "WrongOrder",
-    "read", "skip",
+    "DnsError", "EdnsOption", "EmptyLabel", "Flags", "Header", "LongLabel", "LongName", "Mark", "Message",
+    "MessageBuilder", "Name", "NoBuilder", "NoField", "NoLabel", "NoMnemonic", "NoRoom", "Opcode", "Opt",
+    "Question", "Rcode", "Reading", "Record", "RelativeName", "ShortInput", "TooManyEntries", "TooManyPointers",
+    "TrailingData", "Type", "WrongOrder", "read", "skip",
 ]

@@ -2,11 +2,11 @@
 
 from __future__ import annotations
 
-from ctypes import byref, c_size_t, create_string_buffer
+from ctypes import byref, c_size_t, c_uint16, c_uint32, create_string_buffer
 from threading import Lock
-from typing import Any, Callable, Dict, Iterable, Tuple, Union
+from typing import Any, Callable, Dict, Iterable, List, Tuple, Union
 
-from ._library import BuilderFields, Octets, ShortInput, as_octets, as_size, library, refuse
+from ._library import BuilderFields, BuilderState, Octets, ShortInput, as_octets, as_size, library, refuse
 from ._message import Record
 from ._mnemonic import AnyClass, AnyType, Class, Type, as_number
 from ._name import AnyName, as_name
@@ -51,6 +51,35 @@ def _options(options: Options) -> bytes:
     return octets
 
 
+def _section(section: str) -> int:
+    if section not in _SECTIONS:
+        raise ValueError('the sections are "answer", "authority" and "additional"')
+    return _SECTIONS[section]
+
+
+def _rrset(
+    section: str, name: AnyName, type: AnyType, datas: Iterable[Octets], ttl: int, class_: AnyClass
+) -> Tuple[Any, ...]:
+    """What the library takes of an RRset."""
+    number, owner, each = _section(section), bytes(as_name(name)), [as_octets(data) for data in datas]
+    if any(len(data) > 65535 for data in each):
+        raise ValueError("data have at most 65,535 octets")
+    whole, lens = b"".join(each), (c_uint16 * len(each))(*map(len, each))
+    return (
+        number, owner, len(owner), as_number(Type, type), as_number(Class, class_), _word(ttl, 32), whole, len(whole),
+        lens, len(each),
+    )
+
+
+class Mark:
+    """What a message had when `MessageBuilder.mark` made this."""
+
+    __slots__ = ("_state",)
+
+    def __init__(self, state: BuilderState) -> None:
+        self._state = BuilderState.from_buffer_copy(state)
+
+
 class MessageBuilder:
     """A message that is built (RFC 1035, 4.1): questions, and then records, section by section. Each is pushed whole, or
     not at all: after a refusal all is as it was. Names of questions and owners of records are compressed, and names in
@@ -68,7 +97,7 @@ class MessageBuilder:
     """
 
     # A call of the library lets other threads run, so the lock is held while it reads or writes fields and buffer.
-    __slots__ = ("_buffer", "_fields", "_lock")
+    __slots__ = ("_buffer", "_fields", "_lock", "_marks")
 
     def __init__(self, capacity: int = 65535, id: int = 0, flags: int = 0) -> None:
         """Begins a message of at most so many octets, and 65,535. `flags` are the header's 16 bits, with the opcode at bit
@@ -77,6 +106,7 @@ class MessageBuilder:
         self._buffer = create_string_buffer(max(1, capacity))
         self._fields = BuilderFields()
         self._lock = Lock()
+        self._marks: List[Mark] = []
         self._call(library.dnsnames_builder_start, self._buffer, capacity, _word(id, 16), _word(flags, 16))
 
     def __deepcopy__(self, memo: Dict[int, Any]) -> MessageBuilder:
@@ -161,13 +191,88 @@ class MessageBuilder:
         a.example. 60 MX b.example.
         b.example. 60 A
         """
-        if section not in _SECTIONS:
-            raise ValueError('the sections are "answer", "authority" and "additional"')
-        owner, octets = bytes(as_name(name)), as_octets(data)
+        number, owner, octets = _section(section), bytes(as_name(name)), as_octets(data)
         self._call(
-            library.dnsnames_builder_record, _SECTIONS[section], owner, len(owner), as_number(Type, type),
+            library.dnsnames_builder_record, number, owner, len(owner), as_number(Type, type),
             as_number(Class, class_), _word(ttl, 32), octets, len(octets),
         )
+
+    def push_rrset(
+        self, section: str, name: AnyName, type: AnyType, datas: Iterable[Octets], ttl: int = 0,
+        class_: AnyClass = Class.IN,
+    ) -> None:
+        """Pushes the records of an RRset, one for each of the data and in their order, or none (RFC 2181, 5). Each is
+        written as `record` writes it. Raises as `record` does, for the first that is refused after those before it:
+        nothing is then changed. Raises ValueError where data have more than 65,535 octets.
+
+        >>> answer = MessageBuilder(512)
+        >>> answer.push_rrset("answer", "a.example", Type.A, [bytes([192, 0, 2, 1]), bytes([192, 0, 2, 2])], ttl=60)
+        >>> Message(answer.finish()).header.answers
+        2
+        """
+        self._call(library.dnsnames_builder_rrset, *_rrset(section, name, type, datas, ttl, class_))
+
+    def push_required(
+        self, section: str, name: AnyName, type: AnyType, datas: Iterable[Octets], ttl: int = 0,
+        class_: AnyClass = Class.IN,
+    ) -> bool:
+        """Pushes an RRset that an answer can't do without, or sets the flag TC where it has no room, and changes nothing
+        else (RFC 2181, 9). Returns whether it was pushed. These are the RRsets of the answer section, the name servers
+        of a referral, and those of their addresses that are glue (RFC 9471, 3). Raises as `push_rrset` does, except
+        NoRoom.
+
+        >>> answer = MessageBuilder(32)
+        >>> answer.push_required("answer", "a.example", Type.TXT, [b"\\x04more", b"\\x04text"])
+        False
+        >>> Message(answer.finish()).header.is_truncated
+        True
+        """
+        return self._choose(library.dnsnames_builder_required, *_rrset(section, name, type, datas, ttl, class_))
+
+    def push_extra(
+        self, section: str, name: AnyName, type: AnyType, datas: Iterable[Octets], ttl: int = 0,
+        class_: AnyClass = Class.IN,
+    ) -> bool:
+        """Pushes an RRset that an answer can do without, or leaves it out where it has no room: TC isn't set for it (RFC
+        2181, 9). Returns whether it was pushed. Raises as `push_rrset` does, except NoRoom: nothing is then changed."""
+        return self._choose(library.dnsnames_builder_extra, *_rrset(section, name, type, datas, ttl, class_))
+
+    def _choose(self, call: Callable[..., int], *arguments: Any) -> bool:
+        pushed = c_uint32()
+        self._call(call, *arguments, byref(pushed))
+        return bool(pushed.value)
+
+    def mark(self) -> Mark:
+        """A mark of the message as it is, for `rewind`."""
+        with self._lock:
+            mark = Mark(self._fields.state)
+            self._marks.append(mark)
+        return mark
+
+    def rewind(self, mark: Mark) -> None:
+        """Takes away what was pushed after the mark. The identifier, the flags and the limit stay. The mark can be used
+        again. Raises ValueError for a mark of another message, for one that was made later than a mark that the message
+        went back to, and for one that was made before `truncate`. Raises NoBuilder.
+
+        >>> answer = MessageBuilder(64)
+        >>> mark = answer.mark()
+        >>> try:
+        ...     answer.push_rrset("answer", "a.example", Type.A, [bytes([192, 0, 2, 1])])
+        ...     answer.push_rrset("answer", "a.example", Type.RRSIG, [bytes(64)])
+        ... except NoRoom:
+        ...     answer.rewind(mark)
+        >>> len(answer)
+        12
+        """
+        with self._lock:
+            places = [place for place, it in enumerate(self._marks) if it is mark]
+            if not places:
+                raise ValueError("no mark of this message, or one that was taken away")
+            status = library.dnsnames_builder_rewind(byref(self._fields), byref(mark._state))
+            if not status:
+                del self._marks[places[0] + 1 :]
+        if status:
+            refuse(status)
 
     def opt(
         self, size: int = 1232, rcode: int = 0, version: int = 0, dnssec_ok: bool = False, options: Options = ()
@@ -204,7 +309,12 @@ class MessageBuilder:
         >>> Message(answer.finish()).header.is_truncated
         True
         """
-        self._call(library.dnsnames_builder_truncate)
+        with self._lock:
+            status = library.dnsnames_builder_truncate(byref(self._fields))
+            if not status:
+                self._marks.clear()
+        if status:
+            refuse(status)
 
     def finish(self) -> bytes:
         """Writes the header, and returns the message. It can be changed no more: then each call raises NoBuilder."""

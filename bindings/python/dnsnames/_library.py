@@ -10,7 +10,7 @@ from typing import List, Optional, Union
 
 Octets = Union[bytes, bytearray, memoryview]
 
-VERSION = "0.6.0"
+VERSION = "0.7.0"
 
 MAX_LEN = 255
 MAX_TEXT = 1020
@@ -217,6 +217,10 @@ class BuilderFields(ctypes.Structure):
 
 
 _to_builder = ctypes.POINTER(BuilderFields)
+# Section, owner, type, class, TTL, the data one after another, and their lengths.
+_rrset = [
+    ctypes.c_uint32, _octets, _size, ctypes.c_uint16, ctypes.c_uint16, ctypes.c_uint32, _octets, _size, _to_16, _size,
+]
 
 # As dnsnames.h declares them.
 _ARGUMENTS = {
@@ -241,6 +245,10 @@ _ARGUMENTS = {
     "builder_opt": [
         _to_builder, ctypes.c_uint16, ctypes.c_uint8, ctypes.c_uint8, ctypes.c_uint32, _octets, _size,
     ],
+    "builder_rrset": [_to_builder, *_rrset],
+    "builder_required": [_to_builder, *_rrset, _to_32],
+    "builder_extra": [_to_builder, *_rrset, _to_32],
+    "builder_rewind": [_to_builder, ctypes.POINTER(BuilderState)],
     "builder_truncate": [_to_builder],
     "builder_finish": [_to_builder, _to_size],
     "type_text": [ctypes.c_uint16, _buffer, _size, _to_size],

@@ -1,10 +1,11 @@
 """That messages which are built are read by dnspython as what was pushed, and which names in data are compressed."""
 
+import copy
 import io
 import struct
 import unittest
 
-from dnsnames import Message, MessageBuilder, Name, NoRoom, Type
+from dnsnames import Flags, Message, MessageBuilder, Name, NoBuilder, NoRoom, Type, WrongOrder
 
 from .test_texts import Words
 
@@ -87,6 +88,95 @@ class Compressed(unittest.TestCase):
         glue = len(whole)
         whole.record("additional", Name("ns.example.net"), Type.A, bytes(4))
         self.assertEqual(len(whole), glue + 2 + 10 + 4)
+
+
+ADDRESSES = [bytes([192, 0, 2, 1]), bytes([192, 0, 2, 2])]
+
+
+class Rrsets(unittest.TestCase):
+    """An RRset is pushed whole, or not at all."""
+
+    def test_what_is_written(self):
+        """As the same records, one after another."""
+        for type_, datas in ((Type.A, ADDRESSES), (Type.NS, [bytes(Name("ns.a.example")), bytes(Name("b.example"))])):
+            with self.subTest(type=type_):
+                one_by_one, whole = MessageBuilder(512), MessageBuilder(512)
+                for data in datas:
+                    one_by_one.record("authority", "a.example", type_, data, ttl=7)
+                whole.push_rrset("authority", "a.example", type_, datas, ttl=7)
+                self.assertEqual(whole.finish(), one_by_one.finish())
+
+    def test_each_limit(self):
+        whole = MessageBuilder(512)
+        whole.push_rrset("answer", "a.example", Type.A, ADDRESSES)
+        for limit in range(12, len(whole)):
+            with self.subTest(limit=limit):
+                builder = MessageBuilder(512)
+                builder.limit = limit
+                with self.assertRaises(NoRoom):
+                    builder.push_rrset("answer", "a.example", Type.A, ADDRESSES)
+                self.assertFalse(builder.push_extra("answer", "a.example", Type.A, ADDRESSES))
+                self.assertEqual((len(builder), builder.flags), (12, 0))
+                self.assertFalse(builder.push_required("answer", "a.example", Type.A, ADDRESSES))
+                self.assertEqual((len(builder), builder.flags), (12, Flags.TC))
+        builder.limit = len(whole)
+        self.assertTrue(builder.push_required("answer", "a.example", Type.A, ADDRESSES))
+        self.assertFalse(builder.push_extra("additional", "a.example", Type.A, ADDRESSES))
+        self.assertEqual(len(builder), len(whole))
+
+    def test_refusals(self):
+        builder = MessageBuilder(512)
+        builder.push_rrset("authority", "a.example", Type.A, [])
+        self.assertEqual(len(builder), 12)
+        builder.push_rrset("authority", "a.example", Type.A, iter(ADDRESSES))
+        size = len(builder)
+        for push in (builder.push_rrset, builder.push_required, builder.push_extra):
+            with self.assertRaises(WrongOrder):
+                push("answer", "a.example", Type.A, ADDRESSES)
+            with self.assertRaises(ValueError):
+                push("question", "a.example", Type.A, ADDRESSES)
+            with self.assertRaises(ValueError):
+                push("additional", "a.example", Type.A, [bytes(65536)])
+            with self.assertRaises(TypeError):
+                push("additional", "a.example", Type.A, [4])
+        self.assertEqual((len(builder), builder.flags), (size, 0))
+
+
+class Marks(unittest.TestCase):
+    def test_back(self):
+        builder = MessageBuilder(512, id=7)
+        builder.question("a.example", Type.A)
+        first, size = builder.mark(), len(builder)
+        builder.push_rrset("answer", "a.example", Type.A, ADDRESSES)
+        second, longer = builder.mark(), len(builder)
+        builder.record("additional", "b.example", Type.A, ADDRESSES[0])
+        builder.flags = Flags.QR
+        builder.rewind(second)
+        self.assertEqual((len(builder), builder.flags), (longer, Flags.QR))
+        builder.rewind(first)
+        self.assertEqual(len(builder), size)
+        with self.assertRaises(ValueError):
+            builder.rewind(second)
+        builder.push_rrset("answer", "a.example", Type.A, ADDRESSES[:1])
+        builder.rewind(first)
+        builder.push_rrset("answer", "a.example", Type.A, ADDRESSES)
+        self.assertEqual(len(builder), longer)
+        self.assertEqual(Message(builder.finish()).header.answers, 2)
+
+    def test_refusals(self):
+        builder, other = MessageBuilder(512), MessageBuilder(512)
+        mark = builder.mark()
+        with self.assertRaises(ValueError):
+            other.rewind(mark)
+        with self.assertRaises(ValueError):
+            copy.deepcopy(builder).rewind(mark)
+        builder.finish()
+        with self.assertRaises(NoBuilder):
+            builder.rewind(mark)
+        other_mark = other.mark()
+        other.truncate()
+        with self.assertRaises(ValueError):
+            other.rewind(other_mark)
 
 
 @unittest.skipUnless(dns, "there is no dnspython")

@@ -22,6 +22,27 @@ class Answer(unittest.TestCase):
         ])
 
 
+class Referral(unittest.TestCase):
+    """As dnspython writes the same RRsets."""
+
+    def test_what_is_written(self):
+        asked = "0377777703737562076578616d706c6503636f6d0000010001"
+        servers = "c0100002000100000e100006036e7331c010c0100002000100000e100010026e73076578616d706c65036e657400"
+        glue, other = "c0310001000100000e100004c0000201", "c0430001000100000e100004c0000202"
+        for limit, wanted in (
+            (115, "123480000001000000020002" + asked + servers + glue + other),
+            (114, "123480000001000000020001" + asked + servers + glue),
+            (98, "123482000001000000020000" + asked + servers),
+            (82, "123482000001000000000000" + asked),
+        ):
+            with self.subTest(limit=limit):
+                run = subprocess.run(
+                    [sys.executable, FOLDER / "examples" / "referral.py", str(limit)], capture_output=True, text=True,
+                    check=True, env={**os.environ, "PYTHONPATH": str(FOLDER)},
+                )
+                self.assertEqual(run.stdout, wanted + "\n")
+
+
 class Ask(unittest.TestCase):
     def test_what_is_written(self):
         run = self.run_with("example.com", "MX", "0001020304050607")

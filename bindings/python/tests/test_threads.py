@@ -34,6 +34,10 @@ def composer_of() -> Composer:
 CALLS = {
     "question": lambda builder: builder.question(NAME, Type.MX),
     "record": lambda builder: builder.record("answer", NAME, Type.A, bytes(4)),
+    "rrset": lambda builder: builder.push_rrset("answer", NAME, Type.A, [bytes(4)]),
+    "required": lambda builder: builder.push_required("answer", NAME, Type.A, [bytes(4)]),
+    "extra": lambda builder: builder.push_extra("answer", NAME, Type.A, [bytes(4)]),
+    "rewind": lambda builder: builder.rewind(builder.mark()),
     "opt": lambda builder: builder.opt(),
     "truncate": lambda builder: builder.truncate(),
     "finish": lambda builder: builder.finish(),
@@ -47,6 +51,7 @@ FIELDS = {
     "limit": lambda builder: builder.limit,
     "limit set": lambda builder: setattr(builder, "limit", 500),
     "len": len,
+    "mark": lambda builder: builder.mark(),
     "deepcopy": copy.deepcopy,
 }
 COMPOSING = {

@@ -4,11 +4,26 @@ use conformance_labels::Answer;
 use domain_list::DisplayWithDot;
 use domain_zone_answer::{Response, SectionRrset};
 
+/// The type of RRSIG records, which have TTLs of their own.
+pub const RRSIG: u16 = 46;
+
+/// Appends the TTL of an RRset of a section, or those of RRSIG records with `+` between.
+fn put_ttls(out: &Answer, set: SectionRrset<'_>) {
+    if set.rtype() != RRSIG {
+        return out.put_text_after(b"/", set.ttl());
+    }
+    let mut before = b"/".as_slice();
+    for octets in set.rdata() {
+        out.put_text_after(before, set.record_ttl(octets.as_slice()));
+        before = b"+".as_slice();
+    }
+}
+
 /// Appends an RRset of a section: its owner, type and TTL, and how many records it has.
 fn put_set(out: &Answer, before: &[u8], set: SectionRrset<'_>) {
     out.put_text_after(before, DisplayWithDot::new(&set.owner()));
     out.put_text_after(b"/", set.rtype());
-    out.put_text_after(b"/", set.ttl());
+    put_ttls(out, set);
     out.put_number_after(b"/", set.rdata().len());
 }
 

@@ -2,11 +2,12 @@
 
 use crate::answers::{put_name, put_outcome};
 use crate::fields::name_of;
-use crate::sections::put_sections;
+use crate::sections::{RRSIG, put_sections};
 use conformance_labels::{Answer, Fail, is, number_up_to, octets_of, split_once};
 use domain_header::Class;
 use domain_zone::{BuildError, InsertError, Owner, Zone, ZoneBuilder};
 use domain_zone_answer::respond;
+use domain_zone_laws::ttl::record_ttl;
 use domain_zone_laws::zone::Rrset;
 
 /// `zone APEX RECORDS QUESTIONS`
@@ -76,10 +77,22 @@ fn put_owned(out: &Answer, zone: &Zone, name: &Owner, rtype: u16) {
     out.put_bit(b" has=", zone.rrset(name, rtype).is_some());
 }
 
+/// Appends the TTL of an RRset, or those of RRSIG records with `+` between.
+fn put_ttls(out: &Answer, set: &Rrset<Owner>) {
+    if set.rtype != RRSIG {
+        return out.put_text_after(b"/", set.ttl);
+    }
+    let mut before = b"/".as_slice();
+    for octets in set.rdata.as_slice() {
+        out.put_text_after(before, record_ttl(set, octets.as_slice()));
+        before = b"+".as_slice();
+    }
+}
+
 /// Appends an RRset: its owner, type and TTL, and how many records it has.
 fn put_rrset(out: &Answer, set: &Rrset<Owner>) {
     put_name(out, b" ", &set.owner);
     out.put_text_after(b"/", set.rtype);
-    out.put_text_after(b"/", set.ttl);
+    put_ttls(out, set);
     out.put_number_after(b"/", set.rdata.len());
 }

@@ -1,6 +1,6 @@
 -- Messages that are built in the caller's buffer (RFC 1035, 4.1). `o` is the list of its octets, `b` the builder
 -- beside it.
-use Rattle.std.specs.Prelude.{◌≡◌, ◌⊎◌, ℕ, zero, suc, ◌+◌, ◌<◌, Bool, true, false, List, [], ◌∷◌, ◌++◌, length, take, drop, min, Option, Some, None, IsSome, nat_eq, if◌then◌else◌}
+use Rattle.std.specs.Prelude.{◌≡◌, ◌⊎◌, ℕ, zero, suc, ◌<◌, Bool, true, false, List, [], ◌∷◌, ◌++◌, length, take, drop, min, Option, Some, None, IsSome, nat_eq, if◌then◌else◌}
 use Rattle.domain_header.specs.Headers.{header_octets, counts_octets}
 use Rattle.domain_label.specs.Wire.{IsAbsoluteWire}
 use Rattle.domain_message.specs.Composing.{type_and_class}

@@ -10,5 +10,6 @@ pub mod Strings
 pub mod Opts
 pub mod Mnemonics
 pub mod Builders
+pub mod Rrsets
 pub mod Shown
 pub mod Replies

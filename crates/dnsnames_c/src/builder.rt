@@ -87,7 +87,7 @@ pub extern "C" fn dnsnames_builder_question(
 }
 
 /// The section of a number: answers (1), authority (2), additional (3).
-fn section_named(number: u32) -> Option<Section>
+pub(crate) fn section_named(number: u32) -> Option<Section>
     ensures { result ≡ section_of number }
 {
     match number {
@@ -99,7 +99,7 @@ fn section_named(number: u32) -> Option<Section>
 }
 
 /// The number of why a record wasn't pushed.
-fn number_of_push(fault: PushFault) -> u32
+pub(crate) fn number_of_push(fault: PushFault) -> u32
     ensures { result ≡ push_number fault }
 {
     match fault {

@@ -17,6 +17,7 @@ mod opt;
 mod plan;
 mod put;
 mod read;
+mod rrset;
 mod shown;
 mod string;
 mod table;

@@ -72,16 +72,3 @@ pub fn put_record(
     out.push(b'\n')?;
     Ok(())
 }
-
-/// Appends the records of an RRset with these data.
-pub fn put_records(
-    alloc: Global,
-    front: Front<'_>,
-    data: &[Vec<u8>],
-    out: &mut Vec<u8>,
-) -> Result<(), AllocError> {
-    for octets in data {
-        put_record(alloc, front, octets.as_slice(), out)?;
-    }
-    Ok(())
-}

@@ -1,6 +1,6 @@
 //! A response as text.
 
-use crate::print::{Front, put, put_name, put_record, put_records};
+use crate::print::{Front, put, put_name, put_record};
 use domain_header::Class;
 use domain_message::RtypeText;
 use domain_name::Name;
@@ -17,13 +17,16 @@ fn put_set(
     set: SectionRrset<'_>,
     out: &mut Vec<u8>,
 ) -> Result<(), AllocError> {
-    let front = Front {
-        owner: set.owner(),
-        ttl: set.ttl(),
-        class,
-        rtype: set.rtype(),
-    };
-    put_records(alloc, front, set.rdata(), out)
+    for octets in set.rdata() {
+        let front = Front {
+            owner: set.owner(),
+            ttl: set.record_ttl(octets.as_slice()),
+            class,
+            rtype: set.rtype(),
+        };
+        put_record(alloc, front, octets.as_slice(), out)?;
+    }
+    Ok(())
 }
 
 /// Appends the CNAME that a DNAME makes.

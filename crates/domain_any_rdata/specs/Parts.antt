@@ -39,7 +39,7 @@ abbrev pub parts_at : List FieldKind → List ℕ → ℕ → List Part
 parts_at [] m p = []
 parts_at (kind ∷ kinds) m p = field_part kind m p (field_stop kind m p) ∷ parts_at kinds m (field_stop kind m p)
 
--- those of record data, of one field, and of the fields that are left
+-- those of record data, of one field, and of the remaining fields
 abbrev pub rdata_parts : Rdata → List Part
 rdata_parts it = parts_at (rdata_kinds it) (rdata_message it) (rdata_begin it)
 

@@ -7,3 +7,4 @@ pub mod Naming
 pub mod Standing
 pub mod Contiguous
 pub mod Tabling
+pub mod Rrsets

@@ -4,5 +4,6 @@ pub mod Builders
 pub mod Data
 pub mod Named
 pub mod Pushing
+pub mod Rrsets
 pub mod Reading
 pub mod Rows

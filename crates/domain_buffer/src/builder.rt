@@ -19,7 +19,7 @@ use domain_message::Section;
 /// Its octets are the caller's. Until the message is finished the first twelve are 128 each. No name can be read at
 /// these (RFC 1035, 4.1.4), so names are read the same whatever the header becomes.
 #[repr(C)]
-#[derive(Drop)]
+#[derive(Clone, Copy)]
 pub struct Builder {
     pub limit: usize,
     pub len: usize,

@@ -4,11 +4,13 @@
 
 pub mod builder;
 pub mod data;
+pub mod mark;
 pub mod named;
 pub mod plan;
 pub mod push;
 pub mod put;
 pub mod read;
 pub mod rows;
+pub mod rrset;
 
 pub use builder::Builder;

@@ -4,6 +4,7 @@ use Rattle.std.proofs.lemmas.List.{length-map}
 use Rattle.domain_message.specs.Entries.{QuestionFields}
 use Rattle.domain_message.specs.declared.section.Section.{Section}
 use Rattle.domain_message_builder.specs.Contents.{RecordHead}
+use Rattle.domain_message_builder.specs.Pushes.{PushesRecord}
 use Rattle.domain_message_builder.specs.Refusals.{QuestionRefused, RecordRefused}
 use Rattle.domain_message_builder.specs.State.{State}
 use Rattle.domain_message_builder.specs.declared.error.PushError.{PushError}
@@ -181,6 +182,27 @@ question_stopped comp words q s capacity column e stop is why first h =
 long_record : (comp : Bool) (section : Section) (l : List ℕ) (words : List WordAt) (s : State) (f : Fault) (c : ℕ) → NoFittingRecord l words f c → NoPushedRecord comp section l words s f c
 long_record comp section l words s f c (inl lack) = no_record lack
 long_record comp section l words s f c (inr big) = record_stopped_by big.head big.octets big.record_is (long big.long big.told.0) big.told.1
+
+-- An OPT record that was pushed.
+pub opt_added : (comp : Bool) (section : Section) (h head : RecordHead) (os octets : List ℕ) (a b : State) → h ≡ head → os ≡ octets → PushesRecord comp section h (λ _ t. t ≡ os) a b → PushesRecord comp section head (λ _ t. t ≡ octets) a b
+opt_added comp section h head os octets a b same also pushed =
+    subst (λ x. PushesRecord comp section x (λ _ t. t ≡ octets) a b) same (subst (λ o. PushesRecord comp section h (λ _ t. t ≡ o) a b) also pushed)
+
+-- What is read of two values that are the same.
+pub along : {A B : Type 0} {x y : A} → x ≡ y → (f : A → B) → f x ≡ f y
+along e f = ap f e
+
+-- An OPT record that wasn't pushed, of this head and these options.
+pub opt_refused : {E : Type 0} (comp : Bool) (section : Section) (h head : RecordHead) (os octets : List ℕ) (s : State) (capacity : ℕ) (e : PushError E) → h ≡ head → os ≡ octets → RecordRefused comp section h (λ _ t. t ≡ os) s capacity e
+    → RecordRefused comp section head (λ _ t. t ≡ octets) s capacity e
+opt_refused comp section h head os octets s capacity e same also why =
+    subst (λ x. RecordRefused comp section x (λ _ t. t ≡ octets) s capacity e) same (subst (λ o. RecordRefused comp section h (λ _ t. t ≡ o) s capacity e) also why)
+
+-- Why none was pushed.
+pub opt_stopped : {E : Type 0} (comp : Bool) (section : Section) (head : RecordHead) (octets : List ℕ) (s : State) (capacity : ℕ) (e : PushError E) (stop : Stop) → RecordRefused comp section head (λ _ t. t ≡ octets) s capacity e
+    → IfFault stop (λ f c. TellsPush e f × (c ≡ 1)) → IfFault stop (λ f c. RecordStops comp section head octets s f × (c ≡ 1))
+opt_stopped comp section head octets s capacity e stop why h =
+    if_refused (λ f c. TellsPush e f × (c ≡ 1)) (λ f c. RecordStops comp section head octets s f × (c ≡ 1)) stop (λ f c told. (why_record comp section head octets s capacity e f why told.0, told.1)) h
 
 pub record_refused : (comp : Bool) (section : Section) (l : List ℕ) (words : List WordAt) (s : State) (e : Stop) → IfFault e (NoFittingRecord l words) → IfFault e (NoPushedRecord comp section l words s)
 record_refused comp section l words s e h = if_refused (NoFittingRecord l words) (NoPushedRecord comp section l words s) e (λ f c lack. long_record comp section l words s f c lack) h

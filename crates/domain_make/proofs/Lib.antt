@@ -7,6 +7,7 @@ pub mod Once
 pub mod Saying
 pub mod Entering
 pub mod Marking
+pub mod Opting
 pub mod Refusing
 pub mod Drafting
 pub mod Failing

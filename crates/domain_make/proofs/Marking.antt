@@ -128,7 +128,7 @@ no_bit_z rest never x e = never x (append_cancel_left (codes "; ") rest (codes "
 abbrev pub Looked : List ℕ → List ℕ → List ℕ → Bool → Type 0
 Looked word text rest b = (text ≡ cond b word [] ++ rest) × (b ≡ false → (x : List ℕ) → text ≡ word ++ x → ⊥)
 
-flag_step : (word text rest : List ℕ) (b told : Bool) (flags : List (Bool × List ℕ)) (stop : List ℕ) → Looked word text rest b → text ≡ cond told word [] ++ words_before flags stop → differs word flags ≡ true
+pub flag_step : (word text rest : List ℕ) (b told : Bool) (flags : List (Bool × List ℕ)) (stop : List ℕ) → Looked word text rest b → text ≡ cond told word [] ++ words_before flags stop → differs word flags ≡ true
     → (told ≡ false → (x : List ℕ) → stop ≡ word ++ x → ⊥) → rest ≡ words_before flags stop
 flag_step word text rest b told flags stop look is d ends = one_flag word text rest (words_before flags stop) b told look.0 look.1 is (λ off x. none_before word flags stop x d (ends off x))
 
@@ -165,7 +165,7 @@ begins_heading h text (inl e) = ([], e ∙ sym (append-nil h))
 begins_heading h text (inr e) = (codes ":", e)
 
 -- Lines that begin with words that differ aren't one.
-two_kinds : (a b text x y : List ℕ) → differ a b ≡ true → text ≡ a ++ x → text ≡ b ++ y → ⊥
+pub two_kinds : (a b text x y : List ℕ) → differ a b ≡ true → text ≡ a ++ x → text ≡ b ++ y → ⊥
 two_kinds a b text x y d e f = apart a b x y d (sym e ∙ f)
 
 two_headings : (a b text : List ℕ) → differ a b ≡ true → IsWithColon a text → IsWithColon b text → ⊥
@@ -185,6 +185,22 @@ heading_begins text stage b x (additional w) q an au ad e = let p = begins_headi
 pub codes_heading : (text rest : List ℕ) (stage : Stage) → IsCodesLine text rest → IsHeading text stage → ⊥
 codes_heading text rest stage (inl e) h = heading_begins text stage (codes ";; opcode: ") rest h refl refl refl refl e
 codes_heading text rest stage (inr e) h = heading_begins text stage (codes ";; ->>HEADER<<- opcode: ") rest h refl refl refl refl e
+
+opt_codes : (text rest : List ℕ) → BeginsAsOpt text → IsCodesLine text rest → ⊥
+opt_codes text rest begins (inl line) = elim begins.1 [
+  | inl e ↦ two_kinds (codes "; EDNS:") (codes ";; opcode: ") text begins.0 rest refl e line
+  | inr other ↦ elim other [
+    | inl e ↦ two_kinds (codes "; OPT=") (codes ";; opcode: ") text begins.0 rest refl e line
+    | inr e ↦ two_kinds (codes "; \\# ") (codes ";; opcode: ") text begins.0 rest refl e line
+  ]
+]
+opt_codes text rest begins (inr line) = elim begins.1 [
+  | inl e ↦ two_kinds (codes "; EDNS:") (codes ";; ->>HEADER<<- opcode: ") text begins.0 rest refl e line
+  | inr other ↦ elim other [
+    | inl e ↦ two_kinds (codes "; OPT=") (codes ";; ->>HEADER<<- opcode: ") text begins.0 rest refl e line
+    | inr e ↦ two_kinds (codes "; \\# ") (codes ";; ->>HEADER<<- opcode: ") text begins.0 rest refl e line
+  ]
+]
 
 pub flags_heading : (text rest : List ℕ) (stage : Stage) → IsFlagsLine text rest → IsHeading text stage → ⊥
 flags_heading text rest stage e h = heading_begins text stage (codes ";; flags:") rest h refl refl refl refl e
@@ -287,6 +303,25 @@ remark_once text stage next also old new was is (comment c) (codes_told b p q j 
 remark_once text stage next also old new was is (comment c) (flags_told b fl at same has set) = absurd (c.no_flags b same)
 remark_once text stage next also old new was is (comment c) (heading k) = absurd (c.no_heading also k)
 remark_once text stage next also old new was is (comment c) (comment d) = refl
+
+-- A line that begins as one of an OPT record is none of a header, no heading and no comment.
+pub no_opt_remark : (text : List ℕ) (stage next : Stage) (old new : Header) → BeginsAsOpt text → Remarks text stage old next new → ⊥
+no_opt_remark text stage next old new begins (codes_told rest o r i start line are sets) = opt_codes text rest begins line
+no_opt_remark text stage next old new begins (flags_told rest fl at line has sets) = elim begins.1 [
+  | inl e ↦ two_kinds (codes "; EDNS:") (codes ";; flags:") text begins.0 rest refl e line
+  | inr other ↦ elim other [
+    | inl e ↦ two_kinds (codes "; OPT=") (codes ";; flags:") text begins.0 rest refl e line
+    | inr e ↦ two_kinds (codes "; \\# ") (codes ";; flags:") text begins.0 rest refl e line
+  ]
+]
+no_opt_remark text stage next old new begins (heading h) = elim begins.1 [
+  | inl e ↦ heading_begins text next (codes "; EDNS:") begins.0 h refl refl refl refl e
+  | inr other ↦ elim other [
+    | inl e ↦ heading_begins text next (codes "; OPT=") begins.0 h refl refl refl refl e
+    | inr e ↦ heading_begins text next (codes "; \\# ") begins.0 h refl refl refl refl e
+  ]
+]
+no_opt_remark text stage next old new begins (comment c) = c.no_opt begins
 
 -- A line ends as a heading does, with a colon or without.
 pub section_is : (line : List ℕ) → ((front : List ℕ) × (line ≡ front ++ codes " SECTION")) ⊎ ((front : List ℕ) × (line ≡ front ++ codes " SECTION:")) → EndsInSection line

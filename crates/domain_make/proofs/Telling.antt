@@ -27,6 +27,10 @@ pub passed_on : {T : Type 0} (P : Stop → Type 0) (r : Result T Stop) (e : Stop
 passed_on P (Ok x) e h holds = absurd h
 passed_on P (Err y) e h holds = subst P (sym h) holds
 
+-- Memory is no fault.
+pub no_fault : (P : Fault → ℕ → Type 0) (e : Stop) → e ≡ Memory → IfFault e P
+no_fault P e is = subst (λ s. IfFault s P) (sym is) tt
+
 -- A word that is no text is nothing that is text.
 pub no_text : {A : Type 0} (P : A → Type 0) (word : List ℕ) (kind : Fault) (column : ℕ) (e : Stop) → ((x : A) → P x → IsUtf8 word) → (IsUtf8 word → ⊥) → IfFault e (Tells kind column) → IfFault e (TellsMissing P kind column)
 no_text P word kind column e text never h = if_refused (Tells kind column) (TellsMissing P kind column) e (λ f c told. (told, λ x is. never (text x is))) h

@@ -6,6 +6,7 @@ pub mod Stops
 pub mod Entries
 pub mod Faults
 pub mod Remarks
+pub mod Opts
 pub mod Drafts
 pub mod Refusals
 pub mod Made

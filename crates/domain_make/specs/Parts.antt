@@ -19,6 +19,10 @@ pub record IsNameWord (word : List ℕ) (labels : List (List ℕ)) : Type 0 wher
 abbrev pub IsNumber32 : List ℕ → ℕ → Type 0
 IsNumber32 word n = IsUtf8 word × IsOffsetWord word n
 
+-- The same of a number below a bound.
+abbrev pub IsNumberBelow : ℕ → List ℕ → ℕ → Type 0
+IsNumberBelow bound word n = IsNumber32 word n × (n < bound)
+
 -- The same of 16 bits.
 abbrev pub IsNumber16 : List ℕ → ℕ → Type 0
 IsNumber16 word n = IsNumber32 word n × (n < 65536)

@@ -1,5 +1,5 @@
 -- Why a line isn't taken after what was said.
-use Rattle.std.specs.Prelude.{◌≡◌, ◌≢◌, ◌⊎◌, ℕ, ◌+◌, ◌-◌, ◌<◌, Bool, List, ◌∷◌, length, slice_index, slice_range, Option, IfSome}
+use Rattle.std.specs.Prelude.{◌≡◌, ◌≢◌, ◌⊎◌, ℕ, ◌+◌, ◌-◌, ◌<◌, Bool, List, ◌∷◌, length, slice_index, slice_range, drop, Option, IfSome}
 use Rattle.domain_message.specs.Entries.{QuestionFields}
 use Rattle.domain_message.specs.declared.section.Section.{Section}
 use Rattle.domain_message.specs.declared.section.Section.TheVariants.{Answer, Authority, Additional}
@@ -10,24 +10,32 @@ use Rattle.domain_message_builder.specs.declared.error.PushError.{PushError}
 use Rattle.domain_message_builder.specs.declared.error.PushError.TheVariants.{Append, Long, Count, Limit, Order}
 use Rattle.domain_header.specs.Headers.{question_count}
 use Rattle.domain_rdata.specs.ReadBack.{Exceeds}
-use Rattle.domain_make.specs.Drafts.{Draft, IsBlankDraft, IsAsked, IsRemark, LineSays, IsLine, LinesSay, TextSays, IsDraft}
+use Rattle.domain_make.specs.Drafts.{Draft, IsBlankDraft, IsAsked, IsRemark, SaysThere, IsLine, LinesSay, TextSays, IsDraft, draft_rcode}
 use Rattle.domain_make.specs.Entries.{first_column, IsQuestionWords, IsRecordWords}
 use Rattle.domain_make.specs.Stops.{Tells, NoWords}
 use Rattle.domain_make.specs.Faults.{NoQuestionWords, NoRecordWords}
-use Rattle.domain_make.specs.Remarks.{IsTrimmed, IsCodesLine, AreCodes, IsFlagsLine, BeginsWithFlags, IsHeading, EndsInSection, BeginsAsOpt}
+use Rattle.domain_make.specs.Opts.{AreOptionsAhead, IsCutLine, IsEdnsLine, IsOptionLine, IsOtherStatus, edns_head}
+use Rattle.domain_make.specs.Remarks.{IsTrimmed, IsCodesLine, AreCodes, IsFlagsLine, BeginsWithFlags, IsHeading, EndsInSection, BeginsAsOpt, settled}
 use Rattle.domain_make.specs.Words.{WordAt, AreWords}
 use Rattle.domain_make.specs.declared.error.Fault.{Fault}
 use Rattle.domain_make.specs.declared.error.Fault.TheVariants as fault
 use Rattle.domain_make.specs.declared.error.LineError.{LineError}
+use Rattle.domain_make.specs.declared.opt.EdnsTold.{EdnsTold}
 use Rattle.domain_make.specs.declared.remark.Flags.{Flags}
 use Rattle.domain_make.specs.declared.remark.Stage.{Stage}
-use Rattle.domain_make.specs.declared.remark.Stage.TheVariants.{Start, Codes, Told, Questions, Records}
+use Rattle.domain_make.specs.declared.remark.Stage.TheVariants.{Start, Codes, Told, Questions, Records, Options}
 
 -- The line is none of a header and no heading.
 pub record IsOther (text : List ℕ) : Type 0 where
   pub no_codes : (rest : List ℕ) → IsCodesLine text rest → ⊥
   pub no_flags : (rest : List ℕ) → IsFlagsLine text rest → ⊥
   pub no_heading : (stage : Stage) → IsHeading text stage → ⊥
+
+-- The line says no OPT record in the additional section, and nothing of one right above.
+pub record IsNoOpt (text : List ℕ) (stage : Stage) : Type 0 where
+  pub no_edns : settled stage ≡ Records Additional → (told : EdnsTold) → IsEdnsLine text told → ⊥
+  pub no_option : stage ≡ Options → (octets : List ℕ) → IsOptionLine text octets → ⊥
+  pub no_cut : stage ≡ Options → (octets : List ℕ) → IsCutLine text octets → ⊥
 
 -- A line that begins with a semicolon isn't taken at this stage, for this fault.
 pub data NoRemark (text : List ℕ) (stage : Stage) (f : Fault) : Type 0 where
@@ -45,16 +53,17 @@ IsOutside Codes = Unit {0}
 IsOutside Told = Unit {0}
 IsOutside Questions = ⊥
 IsOutside (Records section) = ⊥
+IsOutside Options = ⊥
 
 -- What the line says is nothing of a message.
 pub data IsFaulty (line : List ℕ) (old : Draft) (f : Fault) (c : ℕ) : Type 0 where
-  remark : (text : List ℕ) → IsRemark line old.stage → IsTrimmed line text → NoRemark text old.stage f → c ≡ 1 → IsFaulty line old f c
+  remark : (text : List ℕ) → IsRemark line old.stage → IsTrimmed line text → IsNoOpt text old.stage → NoRemark text old.stage f → c ≡ 1 → IsFaulty line old f c
   asked_words : old.stage ≡ Questions → IsAsked line → NoWords line 1 f c → IsFaulty line old f c
   asked : (words : List WordAt) → old.stage ≡ Questions → IsAsked line → AreWords line 1 words → NoQuestionWords words f c → IsFaulty line old f c
   no_words : slice_index line 0 ≢ 59 → NoWords line 0 f c → IsFaulty line old f c
   outside : (w : WordAt) (ws : List WordAt) → IsOutside old.stage → slice_index line 0 ≢ 59 → AreWords line 0 (w ∷ ws) → Tells fault.Outside w.column f c → IsFaulty line old f c
   question : (words : List WordAt) → old.stage ≡ Questions → slice_index line 0 ≢ 59 → AreWords line 0 words → 0 < length words → NoQuestionWords words f c → IsFaulty line old f c
-  entry : (section : Section) (words : List WordAt) → old.stage ≡ Records section → slice_index line 0 ≢ 59 → AreWords line 0 words → 0 < length words → NoRecordWords line words f c → IsFaulty line old f c
+  entry : (section : Section) (words : List WordAt) → settled old.stage ≡ Records section → slice_index line 0 ≢ 59 → AreWords line 0 words → 0 < length words → NoRecordWords line words f c → IsFaulty line old f c
 
 -- how many records there are
 abbrev pub records_in : Content → ℕ
@@ -122,24 +131,29 @@ pub data NoPushedRecord (compresses : Bool) (section : Section) (line : List ℕ
   no_record : NoRecordWords line words f c → NoPushedRecord compresses section line words s f c
   stopped : (head : RecordHead) (octets : List ℕ) → IsRecordWords line words head octets → RecordStops compresses section head octets s f → c ≡ first_column words → NoPushedRecord compresses section line words s f c
 
--- What the line says is an entry, which isn't pushed.
-pub data EntryNotPushed (compresses : Bool) (line : List ℕ) (old : Draft) (f : Fault) (c : ℕ) : Type 0 where
+-- What the line says is an entry, which isn't pushed: its reasons, or an OPT record whose response code has other
+-- lower bits than the header.
+pub data EntryNotPushed (compresses : Bool) (line ahead : List ℕ) (old : Draft) (f : Fault) (c : ℕ) : Type 0 where
+  opt : (text : List ℕ) (told : EdnsTold) (octets : List ℕ) → settled old.stage ≡ Records Additional → IsTrimmed line text → IsEdnsLine text told → (IsOtherStatus told (draft_rcode old) → ⊥)
+      → AreOptionsAhead ahead octets → RecordNotPushed compresses Additional (edns_head told) octets old.content f → c ≡ 1 → EntryNotPushed compresses line ahead old f c
+  status : (text : List ℕ) (told : EdnsTold) → settled old.stage ≡ Records Additional → IsTrimmed line text → IsEdnsLine text told → IsOtherStatus told (draft_rcode old) → f ≡ fault.Status → c ≡ 1
+      → EntryNotPushed compresses line ahead old f c
   asked : (words : List WordAt) (q : QuestionFields) → old.stage ≡ Questions → IsAsked line → AreWords line 1 words → IsQuestionWords words q
-      → QuestionNotPushed compresses q old.content f → c ≡ first_column words → EntryNotPushed compresses line old f c
+      → QuestionNotPushed compresses q old.content f → c ≡ first_column words → EntryNotPushed compresses line ahead old f c
   question : (words : List WordAt) (q : QuestionFields) → old.stage ≡ Questions → slice_index line 0 ≢ 59 → AreWords line 0 words → IsQuestionWords words q
-      → QuestionNotPushed compresses q old.content f → c ≡ first_column words → EntryNotPushed compresses line old f c
-  entry : (section : Section) (words : List WordAt) (head : RecordHead) (octets : List ℕ) → old.stage ≡ Records section → slice_index line 0 ≢ 59 → AreWords line 0 words
-      → IsRecordWords line words head octets → RecordNotPushed compresses section head octets old.content f → c ≡ first_column words → EntryNotPushed compresses line old f c
+      → QuestionNotPushed compresses q old.content f → c ≡ first_column words → EntryNotPushed compresses line ahead old f c
+  entry : (section : Section) (words : List WordAt) (head : RecordHead) (octets : List ℕ) → settled old.stage ≡ Records section → slice_index line 0 ≢ 59 → AreWords line 0 words
+      → IsRecordWords line words head octets → RecordNotPushed compresses section head octets old.content f → c ≡ first_column words → EntryNotPushed compresses line ahead old f c
 
 -- The line isn't taken after what was said: it says nothing of a message, with this fault in this column; or an entry,
 -- which isn't pushed.
-pub data IsRefused (compresses : Bool) (line : List ℕ) (old : Draft) (f : Fault) (c : ℕ) : Type 0 where
-  says_nothing : IsFaulty line old f c → ((new : Draft) → LineSays line old new → ⊥) → IsRefused compresses line old f c
-  no_room : EntryNotPushed compresses line old f c → IsRefused compresses line old f c
+pub data IsRefused (compresses : Bool) (line ahead : List ℕ) (old : Draft) (f : Fault) (c : ℕ) : Type 0 where
+  says_nothing : IsFaulty line old f c → ((new : Draft) → SaysThere line ahead old new → ⊥) → IsRefused compresses line ahead old f c
+  no_room : EntryNotPushed compresses line ahead old f c → IsRefused compresses line ahead old f c
 
 -- The line isn't taken after what this builder holds.
-abbrev pub RefusesLine : Bool → List ℕ → Stage → State → Fault → ℕ → Type 0
-RefusesLine compresses line stage old f c = (d : Draft) → IsDraft compresses stage old d → IsRefused compresses line d f c
+abbrev pub RefusesLine : Bool → List ℕ → List ℕ → Stage → State → Fault → ℕ → Type 0
+RefusesLine compresses line ahead stage old f c = (d : Draft) → IsDraft compresses stage old d → IsRefused compresses line ahead d f c
 
 -- The lines of a text before the one of this number, from 1 on, say something, and that one isn't taken after it.
 pub record StopsAtLine (compresses : Bool) (text : List ℕ) (e : LineError) : Type 0 where
@@ -151,7 +165,7 @@ pub record StopsAtLine (compresses : Bool) (text : List ℕ) (e : LineError) : T
   pub more : at < length text
   pub next : e.line ≡ lines + 1
   pub is_line : IsLine text at end
-  pub refused : IsRefused compresses (slice_range text at end) said e.fault e.column
+  pub refused : IsRefused compresses (slice_range text at end) (drop (end + 1) text) said e.fault e.column
 
 -- From a builder that holds nothing, the lines before this one of a text were taken, and this one wasn't.
 abbrev pub StopsFrom : Bool → List ℕ → State → LineError → Type 0
@@ -159,7 +173,7 @@ StopsFrom compresses text old e = (d : Draft) → IsBlankDraft d → IsDraft com
 
 -- Each entry that the lines of a text say, one after the other, has room.
 abbrev pub EntriesHaveRoom : Bool → List ℕ → Type 0
-EntriesHaveRoom compresses text = (n at end : ℕ) (said : Draft) (f : Fault) (c : ℕ) → LinesSay text n at said → IsLine text at end → EntryNotPushed compresses (slice_range text at end) said f c → ⊥
+EntriesHaveRoom compresses text = (n at end : ℕ) (said : Draft) (f : Fault) (c : ℕ) → LinesSay text n at said → IsLine text at end → EntryNotPushed compresses (slice_range text at end) (drop (end + 1) text) said f c → ⊥
 
 -- If all lines of the text say something, then an entry of them has no room.
 abbrev pub NotMade : Bool → List ℕ → Type 0

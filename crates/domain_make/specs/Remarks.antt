@@ -15,7 +15,7 @@ use Rattle.domain_make.specs.declared.error.Fault.TheVariants as fault
 use Rattle.domain_make.specs.declared.remark.CodesTold.{CodesTold}
 use Rattle.domain_make.specs.declared.remark.Flags.{Flags}
 use Rattle.domain_make.specs.declared.remark.Stage.{Stage}
-use Rattle.domain_make.specs.declared.remark.Stage.TheVariants.{Start, Codes, Told, Questions, Records}
+use Rattle.domain_make.specs.declared.remark.Stage.TheVariants.{Start, Codes, Told, Questions, Records, Options}
 
 -- The text is the line without the white space at its end.
 pub record IsTrimmed (line text : List ℕ) : Type 0 where
@@ -141,7 +141,7 @@ EndsInSection text = (front : List ℕ) × IsWithColon (front ++ codes " SECTION
 
 -- The line begins as one of an OPT record.
 abbrev pub BeginsAsOpt : List ℕ → Type 0
-BeginsAsOpt text = (rest : List ℕ) × ((text ≡ codes "; EDNS:" ++ rest) ⊎ (text ≡ codes "; OPT=" ++ rest))
+BeginsAsOpt text = (rest : List ℕ) × ((text ≡ codes "; EDNS:" ++ rest) ⊎ (text ≡ codes "; OPT=" ++ rest) ⊎ (text ≡ codes "; \\# " ++ rest))
 
 -- The line is refused: it ends as a heading, and is none of a section; or else it begins as one of an OPT record.
 abbrev pub IsRefusedRemark : List ℕ → Fault → Type 0
@@ -156,9 +156,18 @@ pub record IsComment (text : List ℕ) : Type 0 where
   pub no_section : EndsInSection text → ⊥
   pub no_opt : BeginsAsOpt text → ⊥
 
+-- where a line is that is none of an OPT record: records of the additional section follow the lines of one
+abbrev pub settled : Stage → Stage
+settled Start = Start
+settled Codes = Codes
+settled Told = Told
+settled Questions = Questions
+settled (Records section) = Records section
+settled Options = Records Additional
+
 -- After a stage and a header, the line leads to the next stage and the new header.
 pub data Remarks (text : List ℕ) (stage : Stage) (old : Header) : (next : Stage) (new : Header) → Type 0 where
   codes_told : {new : Header} (rest : List ℕ) (opcode rcode id : ℕ) → stage ≡ Start → IsCodesLine text rest → AreCodes rest opcode rcode id → SetsCodes opcode rcode id old new → Remarks text stage old Codes new
   flags_told : {new : Header} (rest : List ℕ) (f : Flags) → (stage ≡ Start) ⊎ (stage ≡ Codes) → IsFlagsLine text rest → BeginsWithFlags rest f → SetsFlags f old new → Remarks text stage old Told new
   heading : {next : Stage} → IsHeading text next → Remarks text stage old next old
-  comment : IsComment text → Remarks text stage old stage old
+  comment : IsComment text → Remarks text stage old (settled stage) old

@@ -1,14 +1,17 @@
 //! Questions and records that lines are.
 ghost use Rattle.std.specs.Prelude.{◌≡◌, OnOk, IfOk, IfErr};
 ghost use Rattle.domain_header.specs.Values.{class_number};
-ghost use Rattle.domain_message_builder.specs.Pushes.{asked};
+ghost use Rattle.domain_message.specs.RecordParts.{data_of};
+ghost use Rattle.domain_message_builder.specs.Pushes.{asked, headed};
 ghost use Rattle.domain_name.specs.Names.{name_labels};
 ghost use Rattle.domain_rdata.specs.Rtypes.{rtype_number};
+ghost use Rattle.domain_rdata.specs.Unknown.{data_type};
 ghost use Rattle.domain_make.specs.Entries.{IsClassWord, IsTypeWord, begins_with_digit, first_column, AreStated, IsQuestionWords};
+ghost use Rattle.domain_make.specs.Opts.{opt_head};
 ghost use Rattle.domain_make.specs.Stops.{IfFault};
 ghost use Rattle.domain_make.specs.Faults.{NoClass, NoType, NoQuestionWords, NoStated, NoFittingRecord};
 ghost use Rattle.domain_make.specs.Refusals.{TellsPush};
-ghost use Rattle.domain_make.specs.Taking.{AreWordsOf, AddsQuestionOf, NoQuestionAdded, AddsRecordOf, NoRecordAdded};
+ghost use Rattle.domain_make.specs.Taking.{AreWordsOf, AddsQuestionOf, NoQuestionAdded, AddsRecordOf, NoRecordAdded, AddsOptOf, NoOptAdded};
 ghost use Rattle.domain_make.specs.Words.{word_at, words_at};
 
 use crate::data::data_of;
@@ -18,6 +21,7 @@ use crate::words::Word;
 use domain_header::{Class, Ttl};
 use domain_message::{Question, Record, Section, rtype_from_text};
 use domain_message_builder::{MessageBuilder, PushError};
+use domain_name::absolute::Name;
 use domain_rdata::{Composer, Rtype, UnknownRecordData};
 use octseq::Octets;
 use std::alloc::Global;
@@ -184,4 +188,38 @@ pub(crate) fn push_record<Target: Composer>(
         return Ok(());
     };
     Err(refused(e, first_column(words)))
+}
+
+/// The OPT record of this size, this TTL and these options (RFC 6891, 6.1.2).
+fn opt_record(
+    size: u16,
+    ttl: u32,
+    options: UnknownRecordData<Vec<u8>>,
+) -> Record<Name<&'static [u8]>, UnknownRecordData<Vec<u8>>>
+    requires { data_type options ≡ 41 }
+    ensures head { headed name_labels data_type result ≡ opt_head size ttl }
+    ensures data { data_of result ≡ options }
+{
+    let class = Class::from_int(size);
+    Record::new(Name::root_ref(), class, Ttl::from_secs(ttl), options)
+}
+
+/// Pushes an OPT record of this size, this TTL and these options into the additional section.
+pub(crate) fn push_opt<Target: Composer>(
+    size: u16,
+    ttl: u32,
+    options: Vec<u8>,
+    message: &mut MessageBuilder<Target>,
+) -> Result<(), Stop>
+    ensures ok { OnOk result (AddsOptOf (opt_head size ttl) options.items message.old message.new) }
+    ensures err { IfErr result (NoOptAdded (opt_head size ttl) options.items message.old) }
+{
+    let Ok(rdata) = UnknownRecordData::from_octets(Rtype::from_int(41), options) else {
+        return Err(Stop::Refused(Fault::Octets, 1));
+    };
+    let resource = opt_record(size, ttl, rdata);
+    let Err(e) = message.push(Section::Additional, &resource) else {
+        return Ok(());
+    };
+    Err(refused(e, 1))
 }

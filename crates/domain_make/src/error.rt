@@ -17,8 +17,10 @@ pub enum Fault {
     LateHeader,
     /// A heading of no section of a message.
     Heading,
-    /// A line of an OPT record.
+    /// No line of an OPT record, or one that isn't where these are.
     Opt,
+    /// A response code in the line of an OPT record whose lower bits aren't those of the header.
+    Status,
     /// A question or a record before the heading of a section.
     Outside,
     /// No question: a name, a class and a type.
@@ -119,7 +121,8 @@ impl fmt::Display for Fault {
             Fault::Header => write!(f, "no line of a header"),
             Fault::LateHeader => write!(f, "a header after what it is before"),
             Fault::Heading => write!(f, "no section of a message"),
-            Fault::Opt => write!(f, "OPT records aren't read"),
+            Fault::Opt => write!(f, "no line of an OPT record here"),
+            Fault::Status => write!(f, "another response code than the header's"),
             Fault::Outside => write!(f, "an entry before the heading of a section"),
             Fault::Question => write!(f, "no question: name, class, type"),
             Fault::Record => write!(f, "no record: owner, TTL, class, type, data"),

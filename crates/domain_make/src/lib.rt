@@ -6,6 +6,7 @@ pub mod engine;
 mod entry;
 pub mod error;
 mod line;
+mod opt;
 mod parts;
 mod remark;
 mod words;

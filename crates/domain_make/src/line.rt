@@ -1,17 +1,23 @@
 //! One line after the other.
-ghost use Rattle.std.specs.Prelude.{◌≡◌, ◌≢◌, ◌<◌, ◌≤◌, ◌↔◌, length, slice_index, IsTrue, OnOk, IfOk, IfErr};
+ghost use Rattle.std.specs.Prelude.{◌≡◌, ◌≢◌, ◌<◌, ◌≤◌, ◌↔◌, ℕ, List, length, slice_index, IsTrue, IsNone, OnOk, IfOk, IfErr, IfSome};
+ghost use Rattle.domain_message.specs.declared.section.Section.{Section};
 ghost use Rattle.domain_make.specs.Drafts.{IsAsked, IsRemark, IsLine};
 ghost use Rattle.domain_make.specs.Made.{IfLine, IsOfText};
-ghost use Rattle.domain_make.specs.Refusals.{IsOutside};
-ghost use Rattle.domain_make.specs.Taking.{TakesLine, TakesEntryLine, LineNotTaken, TakesLines, LinesNotTaken};
+ghost use Rattle.domain_make.specs.Opts.{AreOptionsAhead, IsOtherStatus, edns_head};
+ghost use Rattle.domain_make.specs.Refusals.{IsNoOpt, IsOutside};
+ghost use Rattle.domain_make.specs.Remarks.{IsTrimmed, settled};
+ghost use Rattle.domain_make.specs.Taking.{TakesLine, TakesThere, TakesEntryLine, TakesRecordLine, LineNotTaken, RecordNotTaken};
+ghost use Rattle.domain_make.specs.Taking.{NotTakenThere, TakesLines, LinesNotTaken};
+ghost use Rattle.domain_make.specs.Taking.{AddsOptOf, OptNotTaken, LeadsBelow, IsNoOptionLine, IsNoEdnsLine, builder_rcode};
 ghost use Rattle.domain_make.specs.Words.{AreWords, words_at};
 ghost use Rattle.domain_make.specs.declared.error.Stop.{Stop};
 ghost use Rattle.domain_make.specs.declared.remark.Stage.{Stage};
 
-use crate::entry::{push_question, push_record};
+use crate::entry::{push_opt, push_question, push_record};
 use crate::error::{Fault, LineError, MakeError, Stop};
-use crate::remark::{Stage, remark, trimmed};
-use crate::words::{Word, found_words, words_of};
+use crate::opt::{EdnsTold, OptionLine, edns_of, option_line, options_ahead};
+use crate::remark::{Stage, remark, settled, trimmed};
+use crate::words::{Word, found_words, octets_from, words_of};
 use domain_message::Section;
 use domain_message_builder::MessageBuilder;
 use domain_rdata::Composer;
@@ -32,7 +38,8 @@ fn take_remark<Target: Composer>(
     stage: Stage,
     message: &mut MessageBuilder<Target>,
 ) -> Result<Stage, Stop>
-    requires { IsRemark line.now stage }
+    requires remark { IsRemark line.now stage }
+    requires no_opt { (text : List ℕ) → IsTrimmed line.now text → IsNoOpt text stage }
     ensures ok { IfOk result (λ next. TakesLine line.now stage message.old next message.new) }
     ensures err { IfErr result (LineNotTaken line.now stage message.old) }
 {
@@ -44,6 +51,79 @@ fn take_remark<Target: Composer>(
         }
         Err(stop) => Err(stop),
     }
+}
+
+/// Takes an OPT record: what its first line tells, and what the lines ahead say of its options.
+fn take_opt<Target: Composer>(
+    alloc: Global,
+    told: EdnsTold,
+    ahead: &[u8],
+    message: &mut MessageBuilder<Target>,
+) -> Result<Stage, Stop>
+    ensures code { IfOk result (λ _. IsOtherStatus told (builder_rcode message.old) → ⊥) }
+    ensures stage { IfOk result (λ next. next ≡ Stage.Options) }
+    ensures ok { IfOk result (λ _. (octets : List ℕ) × AreOptionsAhead ahead.now octets
+        × AddsOptOf (edns_head told) octets message.old message.new) }
+    ensures err { IfErr result (OptNotTaken told ahead.now message.old) }
+{
+    let ttl = told.ttl(message.header().rcode())?;
+    let options = options_ahead(alloc, ahead)?;
+    push_opt(told.size(), ttl, options, message)?;
+    Ok(Stage::Options)
+}
+
+/// Takes a line right below those of an OPT record. `None` where it is none of it.
+fn take_option(alloc: Global, line: &[u8]) -> Result<Option<Stage>, Stop>
+    ensures ok { IfOk result (λ found. IfSome found (LeadsBelow line.now)) }
+    ensures none { IfOk result (λ found. IsNone found → IsNoOptionLine line.now) }
+    ensures err { IfErr result (λ e. e ≡ Stop.Memory) }
+{
+    match option_line(alloc, trimmed(line))? {
+        OptionLine::Whole => Ok(Some(Stage::Options)),
+        OptionLine::Cut => Ok(Some(Stage::Records(Section::Additional))),
+        OptionLine::Other => Ok(None),
+    }
+}
+
+/// Takes a line that begins with a semicolon, right below those of an OPT record.
+fn take_below<Target: Composer>(
+    alloc: Global,
+    line: &[u8],
+    message: &mut MessageBuilder<Target>,
+) -> Result<Stage, Stop>
+    requires begins { slice_index line.now 0 ≡ 59 }
+    requires no_edns { IsNoEdnsLine line.now }
+    ensures ok { IfOk result
+        (λ next. TakesLine line.now Stage.Options message.old next message.new) }
+    ensures err { IfErr result (LineNotTaken line.now Stage.Options message.old) }
+{
+    match take_option(alloc, line)? {
+        Some(next) => Ok(next),
+        None => take_remark(alloc, line, Stage::Options, message),
+    }
+}
+
+/// Takes a line that begins with a semicolon, in the additional section.
+fn take_additional<Target: Composer>(
+    alloc: Global,
+    line: &[u8],
+    ahead: &[u8],
+    stage: Stage,
+    message: &mut MessageBuilder<Target>,
+) -> Result<Stage, Stop>
+    requires begins { slice_index line.now 0 ≡ 59 }
+    requires place { settled stage ≡ Stage.Records Section.Additional }
+    ensures ok { IfOk result
+        (λ next. TakesThere line.now ahead.now stage message.old next message.new) }
+    ensures err { IfErr result (NotTakenThere line.now ahead.now stage message.old) }
+{
+    if let Some(told) = edns_of(trimmed(line)) {
+        return take_opt(alloc, told, ahead, message);
+    }
+    if let Stage::Options = stage {
+        return take_below(alloc, line, message);
+    }
+    take_remark(alloc, line, stage, message)
 }
 
 /// Takes a question that begins with a semicolon, as `;example.com. IN A`.
@@ -88,9 +168,8 @@ fn take_record<Target: Composer>(
     requires begins { slice_index line.now 0 ≢ 59 }
     requires words { AreWords line.now 0 (words_at words.now) }
     requires some { 0 < length words.now }
-    ensures ok { OnOk result (TakesEntryLine line.now (Stage.Records section)
-        message.old message.new) }
-    ensures err { IfErr result (LineNotTaken line.now (Stage.Records section) message.old) }
+    ensures ok { OnOk result (TakesRecordLine line.now section message.old message.new) }
+    ensures err { IfErr result (RecordNotTaken line.now section message.old) }
 {
     push_record(alloc, section, line, words, message)
 }
@@ -100,7 +179,7 @@ fn is_outside(stage: Stage) -> bool
     ensures { IsTrue result ↔ IsOutside stage }
 {
     match stage {
-        Stage::Questions | Stage::Records(_) => false,
+        Stage::Questions | Stage::Records(_) | Stage::Options => false,
         _ => true,
     }
 }
@@ -113,7 +192,8 @@ fn take_entry<Target: Composer>(
     message: &mut MessageBuilder<Target>,
 ) -> Result<(), Stop>
     requires { slice_index line.now 0 ≢ 59 }
-    ensures ok { OnOk result (TakesEntryLine line.now stage message.old message.new) }
+    ensures ok { OnOk result
+        (TakesLine line.now stage message.old (settled stage) message.new) }
     ensures err { IfErr result (LineNotTaken line.now stage message.old) }
 {
     let found = found_words(alloc, line, 0)?;
@@ -125,22 +205,37 @@ fn take_entry<Target: Composer>(
     if is_outside(stage) {
         return Err(Stop::Refused(Fault::Outside, words[0].column));
     }
-    if let Stage::Records(section) = stage {
+    if let Stage::Records(section) = settled(stage) {
         return take_record(alloc, section, words, line, message);
     }
     take_question(alloc, words, line, message)
+}
+
+/// Whether records of the additional section may be there.
+fn in_additional(stage: Stage) -> bool
+    ensures { IsTrue result ↔ (settled stage ≡ Stage.Records Section.Additional) }
+{
+    let Stage::Records(section) = settled(stage) else {
+        return false;
+    };
+    match section {
+        Section::Additional => true,
+        _ => false,
+    }
 }
 
 /// Takes a line that begins with a semicolon, and returns where in a message the next one is.
 fn take_marked<Target: Composer>(
     alloc: Global,
     line: &[u8],
+    ahead: &[u8],
     stage: Stage,
     message: &mut MessageBuilder<Target>,
 ) -> Result<Stage, Stop>
     requires { slice_index line.now 0 ≡ 59 }
-    ensures ok { IfOk result (λ next. TakesLine line.now stage message.old next message.new) }
-    ensures err { IfErr result (LineNotTaken line.now stage message.old) }
+    ensures ok { IfOk result
+        (λ next. TakesThere line.now ahead.now stage message.old next message.new) }
+    ensures err { IfErr result (NotTakenThere line.now ahead.now stage message.old) }
 {
     if is_asked(line) {
         if let Stage::Questions = stage {
@@ -151,6 +246,9 @@ fn take_marked<Target: Composer>(
         }
         return take_remark(alloc, line, stage, message);
     }
+    if in_additional(stage) {
+        return take_additional(alloc, line, ahead, stage, message);
+    }
     take_remark(alloc, line, stage, message)
 }
 
@@ -158,17 +256,19 @@ fn take_marked<Target: Composer>(
 fn take_line<Target: Composer>(
     alloc: Global,
     line: &[u8],
+    ahead: &[u8],
     stage: Stage,
     message: &mut MessageBuilder<Target>,
 ) -> Result<Stage, Stop>
-    ensures ok { IfOk result (λ next. TakesLine line.now stage message.old next message.new) }
-    ensures err { IfErr result (LineNotTaken line.now stage message.old) }
+    ensures ok { IfOk result
+        (λ next. TakesThere line.now ahead.now stage message.old next message.new) }
+    ensures err { IfErr result (NotTakenThere line.now ahead.now stage message.old) }
 {
     if line.len() > 0 && line[0] == b';' {
-        return take_marked(alloc, line, stage, message);
+        return take_marked(alloc, line, ahead, stage, message);
     }
     match take_entry(alloc, line, stage, message) {
-        Ok(()) => Ok(stage),
+        Ok(()) => Ok(settled(stage)),
         Err(stop) => Err(stop),
     }
 }
@@ -219,7 +319,8 @@ pub(crate) fn take_lines<Target: Composer>(
     while at < text.len() {
         let end = line_end(text, at);
         count += 1;
-        match take_line(alloc, &text[at..end], stage, message) {
+        let ahead = octets_from(text, end + 1);
+        match take_line(alloc, &text[at..end], ahead, stage, message) {
             Ok(next) => stage = next,
             Err(stop) => return Err(refused_line(stop, count)),
         }

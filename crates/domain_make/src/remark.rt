@@ -7,7 +7,7 @@ ghost use Rattle.domain_make.specs.Parts.{IsNumber16};
 ghost use Rattle.domain_make.specs.Refusals.{NoRemark};
 ghost use Rattle.domain_make.specs.Remarks.{IsTrimmed, IsAfter, BeginsWith, BeginsOtherwise, FindsRest, HasNoOctet, IsCodesLine, IsOpcodeText, IsRcodeText};
 ghost use Rattle.domain_make.specs.Remarks.{AreTold, LacksPart, LacksCodes, SetsTold, flag_words, words_before, BeginsWithFlags, SetsFlags};
-ghost use Rattle.domain_make.specs.Remarks.{IsWithColon, IsHeading, EndsInSection, BeginsAsOpt, IsRefusedRemark, Remarks};
+ghost use Rattle.domain_make.specs.Remarks.{IsWithColon, IsHeading, EndsInSection, BeginsAsOpt, IsRefusedRemark, Remarks, settled};
 ghost use Rattle.domain_make.specs.declared.error.Fault.{Fault};
 ghost use Rattle.domain_make.specs.declared.remark.Flags.{Flags};
 ghost use Rattle.domain_make.specs.declared.remark.Stage.{Stage};
@@ -21,7 +21,7 @@ use std::alloc::Global;
 use std::str::from_utf8;
 
 /// What a text has after this beginning.
-fn after<'a>(beginning: &[u8], text: &'a [u8]) -> Option<&'a [u8]>
+pub(crate) fn after<'a>(beginning: &[u8], text: &'a [u8]) -> Option<&'a [u8]>
     ensures { FindsRest (IsAfter beginning.now text.now) result }
 {
     text.strip_prefix(beginning)
@@ -42,7 +42,7 @@ pub(crate) fn trimmed(line: &[u8]) -> &[u8]
 }
 
 /// What a text has before and after the first octet like this one.
-fn parted(text: &[u8], octet: u8) -> Option<(&[u8], &[u8])>
+pub(crate) fn parted(text: &[u8], octet: u8) -> Option<(&[u8], &[u8])>
     ensures some { IfSome result (λ parts. text.now ≡ parts.0.now ++ (octet ∷ parts.1.now)) }
     ensures first { IfSome result (λ parts. HasNoOctet octet parts.0.now) }
     ensures none { IsNone result → HasNoOctet octet text.now }
@@ -158,7 +158,7 @@ fn with_codes(told: CodesTold, header: Header) -> Header
 }
 
 /// Whether a text begins with a word, and what follows it or the text.
-fn flag<'a>(word: &[u8], text: &'a [u8]) -> (bool, &'a [u8])
+pub(crate) fn flag<'a>(word: &[u8], text: &'a [u8]) -> (bool, &'a [u8])
     ensures begins { text.now ≡ cond result.0 word.now [] ++ result.1.now }
     ensures none { result.0 ≡ false → BeginsOtherwise word.now text.now }
 {
@@ -247,6 +247,8 @@ pub(crate) enum Stage {
     Questions,
     /// Records of a section follow.
     Records(Section),
+    /// The same of the additional section, right below the lines of an OPT record.
+    Options,
 }
 
 /// Whether what follows a heading is nothing, or a colon.
@@ -317,6 +319,9 @@ fn is_of_opt(line: &[u8]) -> bool
     if let Some(_rest) = after(b"; OPT=", line) {
         return true;
     }
+    if let Some(_rest) = after(b"; \\# ", line) {
+        return true;
+    }
     false
 }
 
@@ -333,6 +338,16 @@ fn refused_remark(line: &[u8]) -> Option<Fault>
         return Some(Fault::Opt);
     }
     None
+}
+
+/// Where a line is that is none of an OPT record: records of the additional section follow the lines of one.
+pub(crate) fn settled(stage: Stage) -> Stage
+    ensures { result ≡ settled stage }
+{
+    match stage {
+        Stage::Options => Stage::Records(Section::Additional),
+        other => other,
+    }
 }
 
 /// Whether the first line of a header may be there.
@@ -385,7 +400,7 @@ pub(crate) fn remark(
     if let Some(fault) = refused_remark(line) {
         return Err(Stop::Refused(fault, 1));
     }
-    Ok((stage, header))
+    Ok((settled(stage), header))
 }
 
 /// What the first line of a header has after its beginning.

@@ -17,11 +17,12 @@ use Rattle.domain_label.specs.Lowercase.{lowercase_labels}
 use Rattle.domain_list.specs.Ancestors.{OrderDecidesEquality}
 use Rattle.domain_list.specs.NameLaws.{order_is_total}
 use Rattle.domain_list.specs.Order.{canonical_order, SameLabels}
-use Rattle.domain_zone.specs.Building.{Inserted, IsOf, HasRecord, IsMadeOf, Holds, SameKey, IsLarger, IsMadeFrom, Adds, AddsData, Joins, JoinsAt}
+use Rattle.domain_zone.specs.Building.{Inserted, signature_ttl, IsOf, HasRecord, IsMadeOf, Holds, SameKey, IsLarger, IsMadeFrom, Adds, AddsData, Joins, JoinsAt, one_record}
 use Rattle.domain_zone.specs.Faults.{IsAscending, IsCanonical}
 use Rattle.domain_zone.proofs.Chains.{IsChain, chain_insert, chain_replace}
 use Rattle.domain_zone_laws.specs.Sorted.{ComesBefore, IsPlace}
 use Rattle.domain_zone_laws.specs.Zone.{Zone, RRset, HasType}
+use Rattle.domain_zone_laws.specs.declared.zone.SignatureTtl.{SignatureTtl}
 use Rattle.domain_zone_laws.proofs.Deciding.{only_one}
 use Rattle.domain_zone_laws.proofs.Places.{same_default}
 
@@ -110,21 +111,17 @@ data_put f xs x i a w p =
 
 -- ---- RRsets
 
--- the RRset of one record
-abbrev pub one_record : Inserted → RRset
-one_record r = record { owner = r.owner; rtype = r.rtype; ttl = r.ttl; rdata = r.octets ∷ [] }
-
 -- a record of an owner and a type that has none yet
 pub adds_new : (ys : List RRset) (r : Inserted) (i : ℕ) → Adds ys r (insert ys i (one_record r))
 adds_new ys r i =
     let x = one_record r in
     let of : IsOf x r = (refl, refl) in
     record {
-      new = (x, inserted_new ys i x, (of, head_of r.octets [], le_refl r.ttl));
-      kept = λ y c. (y, inserted_kept ys i x y c, ((refl, refl), (λ d h. h), le_refl y.ttl));
+      new = (x, inserted_new ys i x, (of, head_of r.octets [], le_refl r.ttl, (λ e h. h)));
+      kept = λ y c. (y, inserted_kept ys i x y c, ((refl, refl), (λ d h. h), le_refl y.ttl, (λ e h. h)));
       only = λ s c. ⊎_elim
-          (λ (e : x ≡ s). subst (IsMadeFrom ys r) e (record { octets = λ d h. inl (of, only_one r.octets d h); ttl = inl (of, refl); owner = inl (of, refl) }))
-          (λ b. record { octets = λ d h. inr (s, b, (refl, refl), h); ttl = inr (s, b, (refl, refl), refl); owner = inr (s, b, (refl, refl), refl) })
+          (λ (e : x ≡ s). subst (IsMadeFrom ys r) e (record { octets = λ d h. inl (of, only_one r.octets d h); ttl = inl (of, refl); signatures = λ v h. inl (of, h); owner = inl (of, refl) }))
+          (λ b. record { octets = λ d h. inr (s, b, (refl, refl), h); ttl = inr (s, b, (refl, refl), refl); signatures = λ v h. inr (s, b, (refl, refl), h); owner = inr (s, b, (refl, refl), refl) })
           (inserted_cases ys i x s c);
     }
 
@@ -136,20 +133,25 @@ adds_joined ys r i y s l e o j =
     let of : IsOf s r = (key.0 ∙ o.0, key.1 ∙ o.1) in
     let there : Contains ys y = (i, l, sym e) in
     let new = inserted_new (remove ys i) i s in
+    let own : List SignatureTtl = signature_ttl r.rtype r.ttl r.octets in
+    let split : s.signature_ttls ≡ y.signature_ttls ++ own = j.signatures ∙ ap (λ t. y.signature_ttls ++ signature_ttl t r.ttl r.octets) o.1 in
+    let has_new : (v : SignatureTtl) → Contains own v → Contains s.signature_ttls v = λ v h. subst (λ (l : List SignatureTtl). Contains l v) (sym split) (Contains-append_right y.signature_ttls own v h) in
+    let has_old : (v : SignatureTtl) → Contains y.signature_ttls v → Contains s.signature_ttls v = λ v h. subst (λ (l : List SignatureTtl). Contains l v) (sym split) (Contains-append_left y.signature_ttls own v h) in
     record {
-      new = (s, new, (of, (j.rdata.some r.octets).1 (inr refl), j.lower.1));
+      new = (s, new, (of, (j.rdata.some r.octets).1 (inr refl), j.lower.1, has_new));
       kept = λ v c. ⊎_elim
-          (λ (f : y ≡ v). subst (λ (w : RRset). (t : RRset) × Contains zs t × IsLarger w t) f (s, new, (key, (λ d h. (j.rdata.some d).1 (inl h)), j.lower.0)))
-          (λ b. (v, inserted_kept (remove ys i) i s v b, ((refl, refl), (λ d h. h), le_refl v.ttl)))
+          (λ (f : y ≡ v). subst (λ (w : RRset). (t : RRset) × Contains zs t × IsLarger w t) f (s, new, (key, (λ d h. (j.rdata.some d).1 (inl h)), j.lower.0, has_old)))
+          (λ b. (v, inserted_kept (remove ys i) i s v b, ((refl, refl), (λ d h. h), le_refl v.ttl, (λ e h. h))))
           (left_cases ys i y v l e c);
       only = λ t c. ⊎_elim
           (λ (f : s ≡ t). subst (IsMadeFrom ys r) f (record {
             octets = λ d h. ⊎_elim (λ a. inr (y, there, key, a)) (λ g. inl (of, g)) ((j.rdata.some d).0 h);
             ttl = ⊎_elim (λ g. inr (y, there, key, g)) (λ g. inl (of, g)) j.same;
+            signatures = λ v h. ⊎_elim (λ a. inr (y, there, key, a)) (λ g. inl (of, g)) (Contains-append_cases y.signature_ttls own v (subst (λ (l : List SignatureTtl). Contains l v) split h));
             owner = inr (y, there, key, sym j.owner);
           }))
           (λ b. let was = left_kept ys i y t l e b in
-          record { octets = λ d h. inr (t, was, (refl, refl), h); ttl = inr (t, was, (refl, refl), refl); owner = inr (t, was, (refl, refl), refl) })
+          record { octets = λ d h. inr (t, was, (refl, refl), h); ttl = inr (t, was, (refl, refl), refl); signatures = λ v h. inr (t, was, (refl, refl), h); owner = inr (t, was, (refl, refl), refl) })
           (inserted_cases (remove ys i) i s t c);
     }
 
@@ -248,7 +250,7 @@ pub record Building (rs left : List Inserted) (sets : List RRset) : Type 0 where
   pub only : (s : RRset) → Contains sets s → IsMadeOf rs s
 
 larger_has : (y s : RRset) (r : Inserted) → IsLarger y s → HasRecord y r → HasRecord s r
-larger_has y s r l h = ((l.0.0 ∙ h.0.0, l.0.1 ∙ h.0.1), l.1 r.octets h.1, omega (arith, l.2, h.2))
+larger_has y s r l h = ((l.0.0 ∙ h.0.0, l.0.1 ∙ h.0.1), l.1 r.octets h.1, omega (arith, l.2, h.2), (λ e c. l.3 e (h.3 e c)))
 
 -- at first all are left, in another order
 pub building_none : (rs left : List Inserted) → IsPermutation rs left → Building rs left []
@@ -281,6 +283,13 @@ building_more rs left x ys zs b a = record {
             let g = (b.only k.0 k.1).ttl in
             let found : (r : Inserted) × Contains rs r × IsOf s r × (r.ttl ≡ s.ttl) = (g.0, g.1, (k.2.0 ∙ g.2.0, k.2.1 ∙ g.2.1), g.3 ∙ k.3) in found)
             m.ttl;
+        signatures = λ v h. ⊎_elim
+            (λ (k : IsOf s x × Contains (signature_ttl x.rtype x.ttl x.octets) v).
+            let found : (r : Inserted) × Contains rs r × IsOf s r × Contains (signature_ttl r.rtype r.ttl r.octets) v = (x, here, k.0, k.1) in found)
+            (λ (k : (y : RRset) × Contains ys y × SameKey s y × Contains y.signature_ttls v).
+            let g = (b.only k.0 k.1).signatures v k.3 in
+            let found : (r : Inserted) × Contains rs r × IsOf s r × Contains (signature_ttl r.rtype r.ttl r.octets) v = (g.0, g.1, (k.2.0 ∙ g.2.0, k.2.1 ∙ g.2.1), g.3) in found)
+            (m.signatures v h);
         owner = ⊎_elim
             (λ (k : IsOf s x × (x.owner ≡ s.owner)). let found : (r : Inserted) × Contains rs r × IsOf s r × (r.owner ≡ s.owner) = (x, here, k.0, k.1) in found)
             (λ (k : (y : RRset) × Contains ys y × SameKey s y × (y.owner ≡ s.owner)).

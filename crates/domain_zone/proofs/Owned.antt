@@ -26,7 +26,7 @@ module _ (z : Zone) (n : List (List ℕ)) (t i j : ℕ) (decides : OrderDecidesE
   -- the first place isn't after the last
   pub in_order : i ≤ length z.rrsets → i ≤ j
   in_order h =
-      let d : RRset = record { owner = []; rtype = 0; ttl = 0; rdata = [] } in
+      let d : RRset = record { owner = []; rtype = 0; ttl = 0; rdata = []; signature_ttls = [] } in
       ⊎_elim
       (λ m. m.1)
       (λ m. absurd (omega (arith, m.1, (q j d (omega (arith, m.1, h))).1 (more_types (slice_index_or z.rrsets j d) n t ((p j d (omega (arith, m.1, h))).0 m.1)))))

@@ -162,8 +162,9 @@ impl ZoneBuilder {
     }
 
     /// The zone of the records that were inserted: those of one owner and one type are an RRset, which has equal data
-    /// once. TTLs that differ are lowered to the lowest one of the RRset (RFC 2181, 5 and 5.2). Where records spell
-    /// the owner differently, the RRset has the spelling of the record with the lowest data.
+    /// once. TTLs that differ are lowered to the lowest one of the RRset (RFC 2181, 5 and 5.2). Those of RRSIG records
+    /// are lowered to the lowest one of those that cover the same type (RFC 4034, 3). Where records spell the owner
+    /// differently, the RRset has the spelling of the record with the lowest data.
     ///
     /// # Errors
     ///

@@ -1,8 +1,9 @@
 //! One record more among RRsets in canonical order.
-ghost use Rattle.std.specs.Prelude.{◌≡◌, ◌<◌, ◌≤◌, ◌⊎◌, IsTrue, ◌↔◌, IfOk, ℕ, length, map, slice_index_or};
+ghost use Rattle.std.specs.Prelude.{◌≡◌, ◌<◌, ◌≤◌, ◌⊎◌, ◌++◌, IsTrue, ◌↔◌, IfOk, ℕ, length, map, slice_index_or};
 ghost use Rattle.domain_list.specs.Order.{SameLabels};
 ghost use Rattle.domain_name.specs.Names.{name_labels};
-ghost use Rattle.domain_zone.specs.Building.{Adds, AddsData, BeginsAt, Holds, Joins, JoinsAt, entry_order};
+ghost use Rattle.domain_zone.specs.Building.{Adds, AddsData, BeginsAt, Holds, Joins, JoinsAt};
+ghost use Rattle.domain_zone.specs.Building.{entry_order, one_record, signature_ttl};
 ghost use Rattle.domain_zone.specs.Entries.{entry_view};
 ghost use Rattle.domain_zone.specs.Faults.{IsAscending, IsCanonical};
 ghost use Rattle.domain_zone.specs.Records.{records_view, set_view};
@@ -13,7 +14,8 @@ use crate::names::Owner;
 use domain_list::comparing::{eq_names, order_names};
 use domain_list::laws::order_laws;
 use domain_zone_laws::find::place_of;
-use domain_zone_laws::zone::{Rrset, ZoneRecords};
+use domain_zone_laws::ttl::covered_type;
+use domain_zone_laws::zone::{Rrset, SignatureTtl, ZoneRecords};
 use std::alloc::{AllocError, Global};
 use std::cmp::Ordering;
 
@@ -41,7 +43,25 @@ fn with_data(rdata: Vec<Vec<u8>>, octets: Vec<u8>) -> Result<Vec<Vec<u8>>, Alloc
     }
 }
 
-/// An RRset with a record more, and the lower TTL (RFC 2181, 5.2).
+/// The TTLs of RRSIG records by the types that they cover, and that of one record more, if it is an RRSIG.
+fn with_signature(
+    ttls: Vec<SignatureTtl>,
+    rtype: u16,
+    ttl: u32,
+    octets: &[u8],
+) -> Result<Vec<SignatureTtl>, AllocError>
+    ensures { IfOk result (λ more. more.items ≡ ttls.items ++ signature_ttl rtype ttl octets.now) }
+{
+    let mut ttls = ttls;
+    if rtype == 46 {
+        let covered = covered_type(octets);
+        ttls.push(SignatureTtl { covered, ttl })?;
+    }
+    Ok(ttls)
+}
+
+/// An RRset with a record more, and the lower TTL (RFC 2181, 5.2). RRSIG records keep their TTLs by the types that
+/// they cover (RFC 4034, 3).
 fn joined(set: Rrset<Owner>, ttl: u32, octets: Vec<u8>) -> Result<Rrset<Owner>, AllocError>
     requires { IsAscending (set_view set).rdata }
     ensures { IfOk result (λ more. Joins (set_view set) ttl octets.items (set_view more)) }
@@ -51,13 +71,16 @@ fn joined(set: Rrset<Owner>, ttl: u32, octets: Vec<u8>) -> Result<Rrset<Owner>, 
         rtype,
         ttl: kept,
         rdata,
+        signature_ttls,
     } = set;
+    let signature_ttls = with_signature(signature_ttls, rtype, ttl, octets.as_slice())?;
     let rdata = with_data(rdata, octets)?;
     Ok(Rrset {
         owner,
         rtype,
         ttl: lower(kept, ttl),
         rdata,
+        signature_ttls,
     })
 }
 
@@ -101,6 +124,29 @@ fn with_record(
     Ok(ZoneRecords { apex, sets })
 }
 
+/// The RRset of one record.
+fn begun(alloc: Global, entry: Entry) -> Result<Rrset<Owner>, AllocError>
+    ensures { IfOk result (λ set. set_view set ≡ one_record (entry_view entry)) }
+{
+    let Entry {
+        owner,
+        rtype,
+        ttl,
+        octets,
+    } = entry;
+    let none = Vec::new(alloc);
+    let signature_ttls = with_signature(none, rtype, ttl, octets.as_slice())?;
+    let mut rdata = Vec::new(alloc);
+    rdata.push(octets)?;
+    Ok(Rrset {
+        owner,
+        rtype,
+        ttl,
+        rdata,
+        signature_ttls,
+    })
+}
+
 /// The records with an RRset more, at an index.
 fn with_rrset(
     alloc: Global,
@@ -114,20 +160,7 @@ fn with_rrset(
 {
     let ZoneRecords { apex, sets } = records;
     let mut sets = sets;
-    let Entry {
-        owner,
-        rtype,
-        ttl,
-        octets,
-    } = entry;
-    let mut rdata = Vec::new(alloc);
-    rdata.push(octets)?;
-    let set = Rrset {
-        owner,
-        rtype,
-        ttl,
-        rdata,
-    };
+    let set = begun(alloc, entry)?;
     sets.insert(at, set)?;
     Ok(ZoneRecords { apex, sets })
 }

@@ -49,7 +49,7 @@ one_ttl s t u (inr h) (inl k) = absurd (h.0 k.0 k.1)
 one_ttl s t u (inr h) (inr k) = h.1 ∙ sym k.1
 
 abbrev with_ttl : RRset → ℕ → RRset
-with_ttl s t = record { owner = s.owner; rtype = s.rtype; ttl = t; rdata = s.rdata }
+with_ttl s t = record s { ttl = t }
 
 one_soa : (z : Zone) → IsZone z → (a b : RRset) → IsNegativeSoa z a → IsNegativeSoa z b → a ≡ b
 one_soa z w a b h k =

@@ -21,7 +21,7 @@ pub record Sections : Type 0 where
 -- The RRset s with the owner q: what a wildcard has, with the name that was asked for as the owner (RFC 1034, 4.3.2,
 -- step 3c; RFC 4592, 3.3).
 abbrev pub owned_by : List (List ℕ) → RRset → RRset
-owned_by q s = record { owner = q; rtype = s.rtype; ttl = s.ttl; rdata = s.rdata }
+owned_by q s = record s { owner = q }
 
 -- Of the RRsets that the name n owns, s has the lowest type. RFC 8482, 4.1, leaves the choice to the responder, and
 -- this is the choice of this library.
@@ -51,7 +51,7 @@ IsZoneAnswer z q name_error xs = xs ≡ []
 
 -- The CNAME that the DNAME s makes for q, which it redirects to n: it has the TTL of the DNAME (RFC 6672, 3.1).
 abbrev pub synthesized_cname : List (List ℕ) → RRset → List (List ℕ) → RRset
-synthesized_cname q s n = record { owner = q; rtype = CNAME; ttl = s.ttl; rdata = wire n ∷ [] }
+synthesized_cname q s n = record { owner = q; rtype = CNAME; ttl = s.ttl; rdata = wire n ∷ []; signature_ttls = [] }
 
 -- That CNAME where q is redirected, and else nothing.
 abbrev pub synthesized_cnames : List (List ℕ) → Outcome → List RRset
@@ -96,7 +96,7 @@ IsNegativeTtl s t =
 abbrev pub IsNegativeSoa : Zone → RRset → Type 0
 IsNegativeSoa z r =
     (s : RRset) × (t : ℕ) × IsAt z z.apex SOA s × IsNegativeTtl s t
-    × (r ≡ record { owner = s.owner; rtype = s.rtype; ttl = t; rdata = s.rdata })
+    × (r ≡ record s { ttl = t })
 
 -- The SOA of a negative response (RFC 2308, 2.1, 2.2 and 3), and nothing in another.
 abbrev pub IsDenial : Zone → Reply → List RRset → Type 0

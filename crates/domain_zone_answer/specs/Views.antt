@@ -14,8 +14,13 @@ use Rattle.domain_zone_answer.specs.declared.section.SectionRrset.{SectionRrset}
 
 -- The RRset as the section has it.
 abbrev pub section_view : SectionRrset → RRset
-section_view s =
-    record { owner = name_labels s.owner; rtype = s.set.now.rtype; ttl = s.ttl; rdata = map (λ d. d.items) s.set.now.rdata.items }
+section_view s = record {
+  owner = name_labels s.owner;
+  rtype = s.set.now.rtype;
+  ttl = s.ttl;
+  rdata = map (λ d. d.items) s.set.now.rdata.items;
+  signature_ttls = s.set.now.signature_ttls.items;
+}
 
 -- One RRset, or none.
 abbrev pub section_list : Option SectionRrset → List RRset
@@ -29,6 +34,7 @@ cname_view s = record {
   rtype = CNAME;
   ttl = s.ttl;
   rdata = wire (relative_labels (left_part s.target) ++ name_labels (right_part s.target)) ∷ [];
+  signature_ttls = [];
 }
 
 -- It, or none.

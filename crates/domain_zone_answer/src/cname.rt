@@ -33,6 +33,7 @@ impl<'a> SynthesizedCname<'a> {
           ttl = ttl;
           rdata = wire (relative_labels (left_part target.entry)
               ++ name_labels (right_part target.entry)) ∷ [];
+          signature_ttls = [];
         } }
     {
         SynthesizedCname { owner, ttl, target }

@@ -2,6 +2,7 @@
 
 use domain_name::Name;
 use domain_zone::Owner;
+use domain_zone_laws::ttl::{covered_type, lowest_covered};
 use domain_zone_laws::zone::Rrset;
 
 /// An RRset in a section of a response, with the owner and the TTL that it has there.
@@ -20,6 +21,7 @@ impl<'a> SectionRrset<'a> {
     ghost use Rattle.domain_zone.specs.Records.{set_view};
     ghost use Rattle.domain_zone_answer.specs.Sections.{owned_by};
     ghost use Rattle.domain_zone_answer.specs.Views.{section_view};
+    ghost use Rattle.domain_zone_laws.specs.Zone.{record_ttl};
 
     /// The RRset unchanged.
     pub(crate) fn new(set: &'a Rrset<Owner>) -> SectionRrset<'a>
@@ -64,11 +66,24 @@ impl<'a> SectionRrset<'a> {
         self.set.rtype
     }
 
-    /// Returns the TTL of the records, in seconds.
+    /// Returns the TTL of the records, in seconds. RRSIG records have the TTLs that `record_ttl` returns.
     pub fn ttl(&self) -> u32
         ensures { result ≡ (section_view self.now).ttl }
     {
         self.ttl
+    }
+
+    /// Returns the TTL of the record with these data, in seconds: that of an RRSIG by the type that it covers (RFC
+    /// 4034, 3).
+    pub fn record_ttl(&self, octets: &[u8]) -> u32
+        ensures { result ≡ record_ttl (section_view self.now) octets.now }
+    {
+        let SectionRrset { set, ttl, .. } = *self;
+        if set.rtype != 46 {
+            return ttl;
+        }
+        let lowest = lowest_covered(covered_type(octets), set.signature_ttls.as_slice());
+        lowest.unwrap_or(ttl)
     }
 
     /// Returns the data of each record, in which names aren't compressed.

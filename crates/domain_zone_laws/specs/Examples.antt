@@ -30,7 +30,7 @@ example = codes "example" ∷ Root
 
 -- An RRset that is kept for an hour.
 abbrev pub hourly : List (List ℕ) → ℕ → List (List ℕ) → RRset
-hourly n t os = record { owner = n; rtype = t; ttl = 3600; rdata = os }
+hourly n t os = record { owner = n; rtype = t; ttl = 3600; rdata = os; signature_ttls = [] }
 
 -- ns.example.com. and ns.example.net.
 abbrev pub servers : List (List ℕ)
@@ -95,7 +95,7 @@ address_name a b c d = a ∷ b ∷ c ∷ d ∷ codes "IN-ADDR" ∷ arpa
 
 -- An RRset that is kept for a day.
 abbrev pub daily : List (List ℕ) → ℕ → List (List ℕ) → RRset
-daily n t os = record { owner = n; rtype = t; ttl = 86400; rdata = os }
+daily n t os = record { owner = n; rtype = t; ttl = 86400; rdata = os; signature_ttls = [] }
 
 abbrev pub nic_a : RRset
 nic_a = daily nic A ((26 ∷ 0 ∷ 0 ∷ 73 ∷ []) ∷ (10 ∷ 0 ∷ 0 ∷ 51 ∷ []) ∷ [])

@@ -12,7 +12,13 @@ use Rattle.domain_zone_laws.specs.declared.zone.ZoneRecords.{ZoneRecords}
 
 -- The RRset, where `labels` maps the owner to its labels.
 abbrev pub rrset : {N : Type 0} → (N → List (List ℕ)) → Rrset N → RRset
-rrset labels s = record { owner = labels s.owner; rtype = s.rtype; ttl = s.ttl; rdata = map (λ d. d.items) s.rdata.items }
+rrset labels s = record {
+  owner = labels s.owner;
+  rtype = s.rtype;
+  ttl = s.ttl;
+  rdata = map (λ d. d.items) s.rdata.items;
+  signature_ttls = s.signature_ttls.items;
+}
 
 -- The apex and the RRsets.
 abbrev pub zone_of : {N : Type 0} → (N → List (List ℕ)) → ZoneRecords N → Zone

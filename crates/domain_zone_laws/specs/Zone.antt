@@ -1,17 +1,22 @@
 -- A zone: which names exist in it, where it is cut, and which records are one. Terms are those of RFC 9499.
-use Rattle.std.specs.Prelude.{◌≡◌, ◌≢◌, ℕ, ◌<◌, ◌⊎◌, List, [], ◌∷◌, length, slice_index_or}
+use Rattle.std.specs.Prelude.{◌≡◌, ◌≢◌, ℕ, ◌<◌, ◌==◌, ◌⊎◌, if◌then◌else◌, min, List, [], ◌∷◌, fold, length, slice_index_or, Option, Some, None, unwrap_or}
+use Rattle.std.specs.Int.{w16, from_be_bytes}
 use Rattle.std.specs.List.{All, Contains}
 use Rattle.domain_label.specs.Wire.{IsAbsoluteName, IsAbsoluteWire, labels_in}
 use Rattle.domain_list.specs.Ends.{EndsWith}
 use Rattle.domain_list.specs.Order.{SameLabels}
+use Rattle.domain_zone_laws.specs.declared.zone.SignatureTtl.{SignatureTtl}
 
 -- An RRset: the records of one owner and one type, with one TTL (RFC 2181, 5 and 5.2). Each has its data as octets, in
--- which names aren't compressed.
+-- which names aren't compressed. RRSIG records form no RRset, and their TTLs are those of what they cover (RFC 4034,
+-- 3; RFC 4035, 2.2). Those of one owner are kept as one all the same, with the TTL that each has by the type that it
+-- covers.
 pub record RRset : Type 0 where
   pub owner : List (List ℕ)
   pub rtype : ℕ
   pub ttl : ℕ
   pub rdata : List (List ℕ)
+  pub signature_ttls : List SignatureTtl
 
 -- The apex of a zone and its RRsets, in any order: those that it has authority over, name servers at its cuts, and
 -- glue (RFC 1034, 4.2.1). All have the zone's class (RFC 1035, 5.2), which isn't told here.
@@ -57,6 +62,33 @@ ANY = 255
 -- The type is one of data: no QTYPE or meta type, and neither 0 nor 65,535 (RFC 6895, 3.1).
 abbrev pub IsDataType : ℕ → Type 0
 IsDataType t = ((0 < t) × (t < 128) × (t ≢ OPT)) ⊎ ((255 < t) × (t < 65535))
+
+-- ---- how long a record is kept
+
+-- The type that an RRSIG with these data covers: their first two octets (RFC 4034, 3.1.1). Shorter data cover no type
+-- of data: 0 is none.
+abbrev pub covered_type : List ℕ → ℕ
+covered_type [] = 0
+covered_type (a ∷ []) = 0
+covered_type (a ∷ b ∷ os) = from_be_bytes w16 (a ∷ b ∷ [])
+
+-- The lower of a TTL and the one so far, if there is one.
+abbrev pub lower_ttl : Option ℕ → ℕ → ℕ
+lower_ttl None n = n
+lower_ttl (Some m) n = min m n
+
+-- The lowest TTL so far of RRSIG records that cover the type t, and one more RRSIG.
+abbrev pub lower_covered : ℕ → Option ℕ → SignatureTtl → Option ℕ
+lower_covered t lowest it = if it.covered == t then Some (lower_ttl lowest it.ttl) else lowest
+
+-- The lowest TTL of those that cover the type t.
+abbrev pub lowest_covered : ℕ → List SignatureTtl → Option ℕ
+lowest_covered t its = fold (lower_covered t) None its
+
+-- The TTL of the record of s with the data d: that of the RRset. Of an RRSIG it is the lowest of those that cover the
+-- same type, as it must match the TTL of the RRset that they cover (RFC 4034, 3).
+abbrev pub record_ttl : RRset → List ℕ → ℕ
+record_ttl s d = if s.rtype == RRSIG then unwrap_or (lowest_covered (covered_type d) s.signature_ttls) s.ttl else s.ttl
 
 -- ---- which names exist
 

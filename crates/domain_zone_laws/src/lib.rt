@@ -6,4 +6,5 @@ pub mod find;
 pub mod laws;
 pub mod reply;
 pub mod sorted;
+pub mod ttl;
 pub mod zone;

@@ -7,33 +7,34 @@ use Rattle.domain_message.specs.declared.section.Section.TheVariants.{Answer, Au
 use Rattle.domain_message_builder.specs.Contents.{RecordHead, PushedRecord, Content, Holds}
 use Rattle.domain_message_builder.specs.Pushes.{SameSettings, record_added, emptied, PushesRecord, Rewinds}
 use Rattle.domain_message_builder.specs.Refusals.{RecordRefused}
+use Rattle.domain_message_builder.specs.Rrsets.{records_added}
 use Rattle.domain_message_builder.specs.State.{State}
 use Rattle.domain_message_builder.specs.declared.error.PushError.{PushError}
 use Rattle.domain_message_builder.specs.declared.error.PushError.TheVariants.{Append, Long, Count, Limit, Order}
 use Rattle.domain_zone_laws.specs.Zone.{RRset}
-use Rattle.domain_zone_response.specs.Pushing.{records_of, all_records, with_records, Gains, Fills, CannotAdd, DoesNotFit, StopsAt, Stops}
+use Rattle.domain_zone_response.specs.Pushing.{record_of, records_of, all_records, Gains, Fills, CannotAdd, DoesNotFit, StopsAt, Stops}
 use Rattle.domain_zone_response.specs.Pushing.CannotAdd.{no_room, over_limit, too_long, too_many, begun}
 
 -- nothing is added
-pub none_added : (section : Section) (it : Content) → with_records section [] it ≡ it
+pub none_added : (section : Section) (it : Content) → records_added section it [] ≡ it
 none_added Answer it = ap (λ xs. record it { answers = xs }) (append-nil it.answers)
 none_added Authority it = ap (λ xs. record it { authority = xs }) (append-nil it.authority)
 none_added Additional it = ap (λ xs. record it { additional = xs }) (append-nil it.additional)
 
 -- one record is
-added : (section : Section) (it : Content) (r : PushedRecord) → record_added section it r ≡ with_records section (r ∷ []) it
+added : (section : Section) (it : Content) (r : PushedRecord) → record_added section it r ≡ records_added section it (r ∷ [])
 added Answer it r = refl
 added Authority it r = refl
 added Additional it r = refl
 
 -- some are, and then others
-joined : (section : Section) (rs ss : List PushedRecord) (it : Content) → with_records section ss (with_records section rs it) ≡ with_records section (rs ++ ss) it
+joined : (section : Section) (rs ss : List PushedRecord) (it : Content) → records_added section (records_added section it rs) ss ≡ records_added section it (rs ++ ss)
 joined Answer rs ss it = ap (λ xs. record it { answers = xs }) (append_assoc it.answers rs ss)
 joined Authority rs ss it = ap (λ xs. record it { authority = xs }) (append_assoc it.authority rs ss)
 joined Additional rs ss it = ap (λ xs. record it { additional = xs }) (append_assoc it.additional rs ss)
 
 -- and are taken away again
-again : (section : Section) (rs : List PushedRecord) (it : Content) → emptied section (with_records section rs it) ≡ emptied section it
+again : (section : Section) (rs : List PushedRecord) (it : Content) → emptied section (records_added section it rs) ≡ emptied section it
 again Answer rs it = refl
 again Authority rs it = refl
 again Additional rs it = refl
@@ -51,7 +52,7 @@ gains_none c section a = record { settings = same_settings a; holds = λ it is. 
 pub gains_both : (c : Bool) (section : Section) (rs ss : List PushedRecord) (a b d : State) → Gains c section rs a b → Gains c section ss b d → Gains c section (rs ++ ss) a d
 gains_both c section rs ss a b d x y = record {
   settings = settings_stay a b d x.settings y.settings;
-  holds = λ it is. subst (Holds c d) (joined section rs ss it) (y.holds (with_records section rs it) (x.holds it is));
+  holds = λ it is. subst (Holds c d) (joined section rs ss it) (y.holds (records_added section it rs) (x.holds it is));
 }
 
 -- what a record says before its data
@@ -74,9 +75,6 @@ one_pushed c section h k May o a b p same is =
 abbrev pub with_head : RecordHead → List ℕ → PushedRecord
 with_head h d = record { head = h; rdata = d }
 
-abbrev pub head_of_set : ℕ → RRset → RecordHead
-head_of_set k s = record { owner = s.owner; rtype = s.rtype; class = k; ttl = s.ttl }
-
 -- why a record was refused
 pub cannot_add : {E : Type 0} (c : Bool) (section : Section) (h : RecordHead) (d : List ℕ) (s : State) (room : ℕ) (e : PushError E) → RecordRefused c section h (λ _ o. o ≡ d) s room e → CannotAdd c section (with_head h d) s room
 cannot_add c section h d s room (Append e) why = no_room why
@@ -93,10 +91,6 @@ cannot_add_as c section h k o d s room e why same is =
 -- one element of a list, and those before and after it
 pub parted_at : {X Y : Type 0} (f : X → Y) (xs : List X) (i : ℕ) (d : X) → i < length xs → map f xs ≡ map f (take i xs) ++ f (get_or xs i d) ∷ map f (drop (suc i) xs)
 parted_at f xs i d lt = ap (map f) (sym (take-append-drop i xs)) ∙ (map-append f (take i xs) (drop i xs) ∙ ap (λ l. map f (take i xs) ++ map f l) (drop-cons xs i d lt))
-
--- another head
-pub gains_as : (c : Bool) (section : Section) (h k : RecordHead) (ds : List (List ℕ)) (a b : State) → h ≡ k → Gains c section (map (with_head h) ds) a b → Gains c section (map (with_head k) ds) a b
-gains_as c section h k ds a b same x = subst (λ it. Gains c section (map (with_head it) ds) a b) same x
 
 -- one record more of some
 pub gains_more : {X : Type 0} (c : Bool) (section : Section) (f : X → PushedRecord) (xs : List X) (i : ℕ) (x : X) (a b d : State) → i < length xs → x ≡ get_or xs i x → Gains c section (map f (take i xs)) a b → Gains c section (f x ∷ []) b d → Gains c section (map f (take (i + 1) xs)) a d
@@ -119,7 +113,7 @@ fills c section rs a b x = record { settings = x.settings; holds = λ it bare is
 pub fills_none : (c : Bool) (section : Section) (rs : List PushedRecord) (a b d : State) → Gains c section rs a b → Rewinds c section b d → Fills c section [] a d
 fills_none c section rs a b d x y = record {
   settings = settings_stay a b d x.settings y.settings;
-  holds = λ it bare is. subst (Holds c d) (again section rs it ∙ (bare ∙ sym (none_added section it))) (y.holds (with_records section rs it) (x.holds it is));
+  holds = λ it bare is. subst (Holds c d) (again section rs it ∙ (bare ∙ sym (none_added section it))) (y.holds (records_added section it rs) (x.holds it is));
 }
 
 -- a section that none is pushed to
@@ -130,43 +124,39 @@ fills_nothing c section a = fills c section [] a a (gains_none c section a)
 pub fills_more : (c : Bool) (section : Section) (rs ss : List PushedRecord) (a b d : State) → Fills c section rs a b → Gains c section ss b d → Fills c section (rs ++ ss) a d
 fills_more c section rs ss a b d x y = record {
   settings = settings_stay a b d x.settings y.settings;
-  holds = λ it bare is. subst (Holds c d) (joined section rs ss it) (y.holds (with_records section rs it) (x.holds it bare is));
+  holds = λ it bare is. subst (Holds c d) (joined section rs ss it) (y.holds (records_added section it rs) (x.holds it bare is));
 }
 
 -- The same state.
 pub fills_to : (c : Bool) (section : Section) (rs : List PushedRecord) (a b d : State) → d ≡ b → Fills c section rs a b → Fills c section rs a d
 fills_to c section rs a b d same x = subst (Fills c section rs a) (sym same) x
 
-map_twice : {X : Type 0} (h : RecordHead) (f : X → List ℕ) (xs : List X) → map (λ d. with_head h (f d)) xs ≡ map (with_head h) (map f xs)
-map_twice h f [] = refl
-map_twice h f (x ∷ xs) = ap (λ l. with_head h (f x) ∷ l) (map_twice h f xs)
+map_twice : {X : Type 0} (g : List ℕ → PushedRecord) (f : X → List ℕ) (xs : List X) → map (λ d. g (f d)) xs ≡ map g (map f xs)
+map_twice g f [] = refl
+map_twice g f (x ∷ xs) = ap (λ l. g (f x) ∷ l) (map_twice g f xs)
 
 -- All records of an RRset were pushed.
-pub whole_rrset : {X : Type 0} (c : Bool) (section : Section) (h : RecordHead) (k : ℕ) (s : RRset) (f : X → List ℕ) (xs : List X) (i : ℕ) (a b : State) → length xs ≤ i → h ≡ head_of_set k s → map f xs ≡ s.rdata
-    → Gains c section (map (λ d. with_head h (f d)) (take i xs)) a b → Gains c section (records_of k s) a b
-whole_rrset c section h k s f xs i a b all same is x =
-    let y : Gains c section (map (λ d. with_head h (f d)) xs) a b = gains_all c section (λ d. with_head h (f d)) xs i a b all x in
-    let z : Gains c section (map (with_head h) s.rdata) a b = subst (λ rs. Gains c section rs a b) (map_twice h f xs ∙ ap (map (with_head h)) is) y in
-    gains_as c section h (head_of_set k s) s.rdata a b same z
+pub whole_rrset : {X : Type 0} (c : Bool) (section : Section) (k : ℕ) (s : RRset) (f : X → List ℕ) (xs : List X) (i : ℕ) (a b : State) → length xs ≤ i → map f xs ≡ s.rdata
+    → Gains c section (map (λ d. record_of k s (f d)) (take i xs)) a b → Gains c section (records_of k s) a b
+whole_rrset c section k s f xs i a b all is x =
+    let y : Gains c section (map (λ d. record_of k s (f d)) xs) a b = gains_all c section (λ d. record_of k s (f d)) xs i a b all x in
+    subst (λ rs. Gains c section rs a b) (map_twice (record_of k s) f xs ∙ ap (map (record_of k s)) is) y
 
 -- A record of an RRset was refused.
-pub rrset_stops : {X : Type 0} (c : Bool) (section : Section) (h : RecordHead) (k : ℕ) (s : RRset) (f : X → List ℕ) (xs : List X) (i : ℕ) (x : X) (d : List ℕ) (a b : State) (less room : ℕ)
-    → i < length xs → x ≡ get_or xs i x → d ≡ f x → h ≡ head_of_set k s → map f xs ≡ s.rdata → less ≤ room
-    → Gains c section (map (λ y. with_head h (f y)) (take i xs)) a b → CannotAdd c section (with_head h d) b room → DoesNotFit c section k s less a
-rrset_stops c section h k s f xs i x d a b less room lt is value same data_is enough y why =
-    let z : Gains c section (map (with_head h) (map f (take i xs))) a b = subst (λ rs. Gains c section rs a b) (map_twice h f (take i xs)) y in
-    let r : with_head h d ≡ with_head (head_of_set k s) (f x) = λ j. with_head (same j) (value j) in
-    record {
-      front = map f (take i xs);
-      next = f x;
-      rest = map f (drop (suc i) xs);
-      split = sym data_is ∙ (parted_at f xs i x lt ∙ ap (λ v. map f (take i xs) ++ f v ∷ map f (drop (suc i) xs)) (sym is));
-      at = b;
-      gains = gains_as c section h (head_of_set k s) (map f (take i xs)) a b same z;
-      room = room;
-      enough = enough;
-      why = subst (λ v. CannotAdd c section v b room) r why;
-    }
+pub rrset_stops : {X : Type 0} (c : Bool) (section : Section) (r : PushedRecord) (k : ℕ) (s : RRset) (f : X → List ℕ) (xs : List X) (i : ℕ) (x : X) (a b : State) (less room : ℕ)
+    → i < length xs → x ≡ get_or xs i x → r ≡ record_of k s (f x) → map f xs ≡ s.rdata → less ≤ room
+    → Gains c section (map (λ y. record_of k s (f y)) (take i xs)) a b → CannotAdd c section r b room → DoesNotFit c section k s less a
+rrset_stops c section r k s f xs i x a b less room lt is same data_is enough y why = record {
+  front = map f (take i xs);
+  next = f x;
+  rest = map f (drop (suc i) xs);
+  split = sym data_is ∙ (parted_at f xs i x lt ∙ ap (λ v. map f (take i xs) ++ f v ∷ map f (drop (suc i) xs)) (sym is));
+  at = b;
+  gains = subst (λ rs. Gains c section rs a b) (map_twice (record_of k s) f (take i xs)) y;
+  room = room;
+  enough = enough;
+  why = subst (λ v. CannotAdd c section v b room) same why;
+}
 
 -- An RRset that is the first of its section was taken away again.
 pub stops_first : (c : Bool) (section : Section) (k : ℕ) (xs : List RRset) (s : RRset) (rs : List PushedRecord) (cap : ℕ) (a b d : State) → xs ≡ s ∷ [] → DoesNotFit c section k s cap a → Gains c section rs a b → Rewinds c section b d
@@ -226,7 +216,7 @@ stops_list c section k f xs n m a b less more le x (s, len) =
     )
 
 -- The one record of an RRset was refused.
-pub single_stops : (c : Bool) (section : Section) (k : ℕ) (s : RRset) (h : RecordHead) (d : List ℕ) (room : ℕ) (a : State) → s.rdata ≡ d ∷ [] → h ≡ head_of_set k s → CannotAdd c section (with_head h d) a room → DoesNotFit c section k s room a
+pub single_stops : (c : Bool) (section : Section) (k : ℕ) (s : RRset) (h : RecordHead) (d : List ℕ) (room : ℕ) (a : State) → s.rdata ≡ d ∷ [] → h ≡ (record_of k s d).head → CannotAdd c section (with_head h d) a room → DoesNotFit c section k s room a
 single_stops c section k s h d room a is same why = record {
   front = [];
   next = d;

@@ -44,7 +44,7 @@ abbrev pub Ends : {T E : Type 0} {g : _} {h : _} {i : _} {j : _} {k : _} {l : _}
     → Option Opt → MessageBuilder T E g h i j k l → List ℕ → Type 0
 Ends {g = g} opt b m = EndsWith g.compresses opt (target_room b) (state b) m
 
--- A message was begun that holds nothing, with this limit, of which so many octets are set aside.
+-- A message was begun that holds nothing, with this limit, of which `aside` octets are set aside.
 pub record BeginsWith (compresses : Bool) (limit aside : ℕ) (s : State) : Type 0 where
   pub limit_is : s.limit ≡ limit
   pub aside_is : s.reserved ≡ aside

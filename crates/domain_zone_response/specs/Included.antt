@@ -33,8 +33,8 @@ pub data Parts (cut : List (List ℕ)) : List RRset → List RRset → List RRse
 
 -- Which RRsets the three sections have, and whether that are all that are required. In the additional section the
 -- required ones come first (RFC 9471, 3.2), and as many of the others as were pushed after them. Else it ends before
--- the first required RRset that is left out: `Left section s` says why s is, and each RRset before it is whole (RFC
--- 2181, 9).
+-- the first required RRset that doesn't fit: `Left section s` says why s doesn't, and each RRset before it is whole
+-- (RFC 2181, 9).
 pub data Kept (cut : List (List ℕ)) (all : Sections) (Left : Section → RRset → Type 0) : Bool → List RRset → List RRset → List RRset → Type 0 where
   whole : (ys zs : List RRset) (n : ℕ) → Parts cut all.additional ys zs → length ys ≤ n → Kept cut all Left true all.answer all.authority (take n (ys ++ zs))
   no_answer : (kept : List RRset) (s : RRset) (rest : List RRset) → all.answer ≡ kept ++ s ∷ rest → Left Answer s → Kept cut all Left false kept [] []

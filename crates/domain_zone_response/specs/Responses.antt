@@ -27,7 +27,7 @@ asking qs = record { questions = qs; answers = []; authority = []; additional = 
 abbrev pub only_question : QuestionFields → Content
 only_question q = asking (q ∷ [])
 
--- A message of the question q alone, with this limit, of which so many octets are set aside.
+-- A message of the question q alone, with this limit, of which `aside` octets are set aside.
 pub record IsBegun (compresses : Bool) (limit aside : ℕ) (q : QuestionFields) (s : State) : Type 0 where
   pub limit_is : s.limit ≡ limit
   pub aside_is : s.reserved ≡ aside

@@ -65,9 +65,14 @@ fn header_fault(header: Header, asked: &Result<Option<OptRecord<'_>>, OptError>)
 
 /// The question of a query, or the response code by which it is refused.
 ///
-/// In this order: BADVERS where the version of EDNS isn't 0 (RFC 6891, 6.1.3); NOTIMP where the opcode isn't QUERY;
-/// FORMERR where an entry is missing, there is more than one OPT record (6.1.1) or one that isn't of the root (6.1.2),
-/// or not one question; REFUSED where the class isn't this one; then those of the type.
+/// The code is that of the first of these that holds:
+///
+/// - BADVERS where the version of EDNS isn't 0 (RFC 6891, 6.1.3);
+/// - NOTIMP where the opcode isn't QUERY (RFC 1035, 4.1.1);
+/// - FORMERR where an entry is missing, where there is more than one OPT record or one that isn't of the root (RFC
+///   6891, 6.1.1 and 6.1.2), and where there isn't one question;
+/// - REFUSED where the class isn't this one;
+/// - the code of the question's type.
 pub(crate) fn question_of<'a>(
     message: &'a Message<&[u8]>,
     asked: &Result<Option<OptRecord<'_>>, OptError>,

@@ -3,7 +3,7 @@ ghost use Rattle.std.specs.Prelude.{◌≡◌, ◌≤◌, ◌∷◌, [], IsTrue,
 ghost use Rattle.domain_header.specs.Values.{class_number};
 ghost use Rattle.domain_message_builder.specs.Builders.{state, target_room};
 ghost use Rattle.domain_zone_answer.specs.Views.{section_view, section_list};
-ghost use Rattle.domain_zone_response.specs.Pushing.{records_of, all_records};
+ghost use Rattle.domain_zone_response.specs.Pushing.{record_of, records_of, all_records};
 ghost use Rattle.domain_zone_response.specs.Views.{headed_record, GainsRecords, GainsSome, FillsRecords};
 ghost use Rattle.domain_zone_response.specs.Views.{RecordCannotBeAdded, RrsetDoesNotFit, StopsPushing};
 
@@ -14,16 +14,16 @@ use domain_name::Name;
 use domain_rdata::{Composer, Rtype, UnknownRecordData};
 use domain_zone_answer::SectionRrset;
 
-/// What the records of an RRset have before their data.
+/// What a record has before its data.
 #[derive(Clone, Copy)]
 pub(crate) struct Head<'a> {
-    /// Their owner.
+    /// Its owner.
     pub(crate) owner: Name<&'a [u8]>,
-    /// Their type.
+    /// Its type.
     pub(crate) rtype: u16,
-    /// Their class.
+    /// Its class.
     pub(crate) class: Class,
-    /// Their TTL in seconds.
+    /// Its TTL in seconds.
     pub(crate) ttl: u32,
 }
 
@@ -51,6 +51,19 @@ pub(crate) fn push_record<Target: Composer>(
     }
 }
 
+/// What the record of an RRset with these data has before them.
+fn head_of<'a>(class: Class, set: SectionRrset<'a>, octets: &[u8]) -> Head<'a>
+    ensures { headed_record result octets.now
+        ≡ record_of (class_number class) (section_view set.entry) octets.now }
+{
+    Head {
+        owner: set.owner(),
+        rtype: set.rtype(),
+        class,
+        ttl: set.record_ttl(octets),
+    }
+}
+
 /// Pushes the records of an RRset, up to the first that is refused. Returns whether all were pushed.
 pub(crate) fn push_rrset<Target: Composer>(
     message: &mut MessageBuilder<Target>,
@@ -65,15 +78,10 @@ pub(crate) fn push_rrset<Target: Composer>(
         (section_view set.entry) message.old }
     ensures capacity { target_room message.old ≤ target_room message.new }
 {
-    let head = Head {
-        owner: set.owner(),
-        rtype: set.rtype(),
-        class,
-        ttl: set.ttl(),
-    };
     let rdata = set.rdata();
-    for octets in rdata {
-        let pushed = push_record(message, section, head, octets.as_slice());
+    for item in rdata {
+        let octets = item.as_slice();
+        let pushed = push_record(message, section, head_of(class, set, octets), octets);
         if !pushed {
             return false;
         }

@@ -23,7 +23,7 @@ pub const DNSNAMES_MAX_MNEMONIC: usize = 12;
 /// The octets of a key of [`dnsnames_hash`].
 pub const DNSNAMES_KEY_LEN: usize = 16;
 /// The version of these declarations; [`dnsnames_version`] returns that of the library.
-pub const DNSNAMES_VERSION: &str = "0.6.0";
+pub const DNSNAMES_VERSION: &str = "0.7.0";
 
 /// What a call returns: one of the constants below, which say why it refuses.
 pub type dnsnames_status = u32;
@@ -68,7 +68,7 @@ pub const DNSNAMES_FLAT: dnsnames_status = 17;
 pub const DNSNAMES_NULL: dnsnames_status = 18;
 /// Octets of a relative name: a root label stands in them.
 pub const DNSNAMES_ABSOLUTE: dnsnames_status = 19;
-/// A length that is passed is larger than the capacity beside it.
+/// A length that is passed is larger than the capacity beside it, or lengths don't make up the octets beside them.
 pub const DNSNAMES_BAD_LENGTH: dnsnames_status = 20;
 /// Data of records of this type have no such field: name, number, address, string or option.
 pub const DNSNAMES_NO_FIELD: dnsnames_status = 21;
@@ -90,6 +90,8 @@ pub const DNSNAMES_BAD_FORM: dnsnames_status = 28;
 pub const DNSNAMES_NO_TEXT: dnsnames_status = 29;
 /// Aliases: the first question has no canonical name, or more records lead on than the limit allows.
 pub const DNSNAMES_NO_END: dnsnames_status = 30;
+/// Building: the mark is no builder as its calls leave it, or is longer than the message.
+pub const DNSNAMES_NO_MARK: dnsnames_status = 31;
 
 // What a row of `dnsnames_table` has at which place, and how many numbers it has.
 pub const DNSNAMES_ROW_NAME: usize = 0;
@@ -518,6 +520,55 @@ extern "C" {
         ttl: u32,
         data: *const u8,
         data_len: usize,
+    ) -> dnsnames_status;
+    /// Pushes an RRset, or nothing: data one after the other, and how many octets each has.
+    pub fn dnsnames_builder_rrset(
+        builder: *mut dnsnames_builder,
+        section: u32,
+        owner: *const u8,
+        owner_len: usize,
+        r#type: u16,
+        class_: u16,
+        ttl: u32,
+        data: *const u8,
+        data_len: usize,
+        lens: *const u16,
+        lens_len: usize,
+    ) -> dnsnames_status;
+    /// Pushes an RRset that is required, or sets the flag TC where it has no room.
+    pub fn dnsnames_builder_required(
+        builder: *mut dnsnames_builder,
+        section: u32,
+        owner: *const u8,
+        owner_len: usize,
+        r#type: u16,
+        class_: u16,
+        ttl: u32,
+        data: *const u8,
+        data_len: usize,
+        lens: *const u16,
+        lens_len: usize,
+        pushed: *mut u32,
+    ) -> dnsnames_status;
+    /// Pushes an RRset, or leaves it out where it has no room.
+    pub fn dnsnames_builder_extra(
+        builder: *mut dnsnames_builder,
+        section: u32,
+        owner: *const u8,
+        owner_len: usize,
+        r#type: u16,
+        class_: u16,
+        ttl: u32,
+        data: *const u8,
+        data_len: usize,
+        lens: *const u16,
+        lens_len: usize,
+        pushed: *mut u32,
+    ) -> dnsnames_status;
+    /// Takes away what was pushed after a copy of the state was made.
+    pub fn dnsnames_builder_rewind(
+        builder: *mut dnsnames_builder,
+        mark: *const dnsnames_builder_state,
     ) -> dnsnames_status;
     /// Pushes an OPT record.
     pub fn dnsnames_builder_opt(

@@ -1,6 +1,7 @@
-use Rattle.std.proofs.Common.{refl, sym, ◌∙◌}
+use Rattle.std.proofs.Common.{refl, sym, subst, ◌∙◌}
 use Rattle.std.proofs.lemmas.Bool.{false≢true}
 use Rattle.domain_make.specs.Refusals.NoRemark.{late_codes, late_flags}
+use Rattle.domain_make.specs.Remarks.{Remarks}
 use Rattle.domain_make.specs.Remarks.Remarks.{codes_told, flags_told, heading, comment}
 use Rattle.domain_make.proofs.Marking.{codes_refused, flags_refused, other_refused}
 use Rattle.domain_make.proofs.Telling.{passed_on}
@@ -38,10 +39,10 @@ returns-in-Some-refused_remark-clause-err c = (
 )
 
 pub returns-clause-ok : goal.returns-clause-ok
-returns-clause-ok c = comment (record {
+returns-clause-ok c = subst (λ n. Remarks c.args.line.now c.args.stage c.args.header n c.args.header) (sym c.settled.ensures) (comment (record {
   no_codes = c.in_default.ensures;
   no_flags = c.in_default-after.ensures;
   no_heading = c.in_default-heading.ensures.none refl;
   no_section = (c.in_default-refused_remark.ensures.none refl).0;
   no_opt = (c.in_default-refused_remark.ensures.none refl).1;
-})
+}))
