@@ -123,19 +123,19 @@ def is_loop(it):
 
 
 def is_long_chain(it):
-    is_cut = it.theirs.answer < it.ours.answer or it.theirs.rcode == "SERVFAIL"
-    return len(links(it.theirs.answer)) >= 5 and it.theirs.answer <= it.ours.answer and is_cut
+    is_cut = it.theirs.answer < it.our_whole.answer or it.theirs.rcode == "SERVFAIL"
+    return len(links(it.theirs.answer)) >= 5 and it.theirs.answer <= it.our_whole.answer and is_cut
 
 
 def is_second_turn(it):
     is_redirected = DNAME in {rtype for *_, rtype, _ in it.theirs.answer}
-    return is_redirected and len(links(it.ours.answer)) > 1 and it.theirs.answer < it.ours.answer
+    return is_redirected and len(links(it.our_whole.answer)) > 1 and it.theirs.answer < it.our_whole.answer
 
 
-def is_first_alone(it):
-    """The response to the question alone, without what follows."""
-    first = it.zone.ours[it.query]
-    return it.rtype == ANY and all(getattr(it.theirs, part) == getattr(first, part) for part in ("rcode", *SECTIONS))
+def is_any_past_dname(it):
+    """Whether the server goes on after the CNAME that a DNAME makes."""
+    is_redirected = DNAME in {rtype for *_, rtype, _ in it.ours.answer}
+    return it.rtype == ANY and is_redirected and it.theirs.answer >= it.ours.answer
 
 
 def exceeds(response, form):
@@ -145,7 +145,7 @@ def exceeds(response, form):
 
 def is_cut_twice(it):
     is_cut = it.ours.tc and it.theirs.tc and exceeds(it.our_whole, it.query.form)
-    is_known = it.theirs.rcode in (it.ours.rcode, it.our_whole.rcode)
+    is_known = it.theirs.rcode in ("NOERROR", it.ours.rcode, it.our_whole.rcode)
     return is_cut and is_known and it.zone.has(records(it.theirs) - records(it.their_whole))
 
 
@@ -168,9 +168,9 @@ def lacks_room(it):
     return is_long and not it.ours.tc and not it.theirs.tc and ours and theirs
 
 
-def clears_cd(it):
+def copies_cd(it):
     (number, opcode, ours), (*its, theirs) = it.ours.header, it.theirs.header
-    return [number, opcode] == its and ours ^ theirs == dns.flags.CD and ours & dns.flags.CD
+    return [number, opcode] == its and ours ^ theirs == dns.flags.CD and theirs & dns.flags.CD
 
 
 def explains(it):
@@ -180,10 +180,13 @@ def explains(it):
 
 
 def is_one_cover(it):
-    """Whether the server answers with the RRSIGs that cover one type. Those of the program must be the zone's."""
+    """Whether the server answers with the RRSIGs that cover one type, each with the TTL of that RRset or the original
+    one in its data. Those of the program must be the zone's."""
     types = {one[3].covers() for one in it.theirs.answer}
-    ours = frozenset(one for one in it.ours.answer if one[3].covers() in types)
-    return it.rtype == RRSIG and len(types) == 1 and it.theirs.answer == ours and it.zone.has(it.ours.answer)
+    ours = {(name, data): ttl for name, ttl, _, data in it.ours.answer if data.covers() in types}
+    theirs = {(name, data): ttl for name, ttl, _, data in it.theirs.answer}
+    is_same = ours.keys() == theirs.keys() and all(theirs[one] in (ours[one], one[1].original_ttl) for one in ours)
+    return it.rtype == RRSIG and len(types) == 1 and is_same and it.zone.has(it.ours.answer)
 
 
 # A class of differences: the servers, the parts of a response, a test of the difference, and the reason.
@@ -210,11 +213,11 @@ CLASSES = [
         "9471, 3, demands glue alone. `dnszone` adds all addresses that the zone has (RFC 1034, 4.3.2, step 3b).",
     ),
     (
-        "named",
+        "nsd knotd",
         "rcode answer authority additional",
-        is_first_alone,
-        "After a DNAME the search starts again with the new name (RFC 6672, 3.2, step 3c). For ANY, BIND stops at "
-        "the CNAME, which answers the question (RFC 8482, 4.1).",
+        is_any_past_dname,
+        "A question for ANY is answered by the CNAME that a DNAME makes (RFC 8482, 4.1), and `dnszone` and BIND stop "
+        "there. NSD and Knot DNS start again with the new name (RFC 6672, 3.2, step 3c).",
     ),
     (
         ALL,
@@ -228,7 +231,8 @@ CLASSES = [
         "answer",
         is_one_cover,
         "The RRSIGs of an owner belong to the RRsets that they cover (RFC 4034, 3). Knot DNS answers a question for "
-        "RRSIG with those of one RRset, `dnszone` and the others with all.",
+        "RRSIG with those of one RRset, `dnszone` and the others with all. Where the TTLs of an RRset differ, it takes "
+        "the original TTL in the RRSIG.",
     ),
     (
         "named",
@@ -255,20 +259,19 @@ CLASSES = [
         "named",
         "rcode",
         is_loop,
-        "A loop of CNAMEs should be reported as an error (RFC 1034, 3.6.2). BIND returns SERVFAIL. `dnszone` returns "
-        "one CNAME per question, so its caller finds the loop. NSD and Knot DNS return NOERROR, too.",
+        "A loop of CNAMEs should be reported as an error (RFC 1034, 3.6.2). BIND returns SERVFAIL. `dnszone` "
+        "returns each CNAME of the loop once with NOERROR, as NSD and Knot DNS do.",
     ),
     (
         "knotd named",
-        "rcode answer authority additional",
+        "rcode tc answer authority additional",
         is_long_chain,
         "A chain of CNAMEs should be followed (RFC 1034, 3.6.2). These servers stop after some of them, BIND with "
-        "SERVFAIL where nothing but the end is missing, and the client asks for the rest. How far a caller of "
-        "`dnszone` follows is its own choice; this script follows 24 names.",
+        "SERVFAIL where nothing but the end is missing, and the client asks for the rest. `dnszone` follows 16.",
     ),
     (
         "nsd",
-        "rcode answer authority additional",
+        "rcode tc answer authority additional",
         is_second_turn,
         "Each DNAME on the way makes a name (RFC 6672, 3.2, step 3c), and a name that becomes too long gives "
         "YXDOMAIN (2.2). NSD uses no DNAME twice in a response, so it stops earlier.",
@@ -281,11 +284,11 @@ CLASSES = [
         "NXDOMAIN.",
     ),
     (
-        "nsd knotd",
+        "named",
         "header",
-        clears_cd,
-        "A security-aware server should clear CD in an authoritative response (RFC 4035, 3.1.6), and these do. "
-        "`dnszone` and BIND copy it, as a recursive server must (RFC 4035, 3.2.2).",
+        copies_cd,
+        "A security-aware server should clear CD in an authoritative response (RFC 4035, 3.1.6). BIND copies it, as a "
+        "recursive server must (RFC 4035, 3.2.2).",
     ),
     (
         ALL,
@@ -305,7 +308,7 @@ CLASSES = [
         "rcode answer authority additional",
         is_cut_twice,
         "With TC set, a client ignores the response and asks again over a stream (RFC 2181, 9), so which of its "
-        "records are there is the server's choice.",
+        "records are there is the server's choice, and the response code doesn't count.",
     ),
     (
         ALL,
@@ -379,10 +382,9 @@ class Trial:
     def take(self, server, zone, octets):
         """The responses of a server to the queries of a zone."""
         theirs = {it: response_of(said) for it, said in octets.items()}
-        for it in zone.sent:
+        for it in zone.queries:
             whole = zone.by_question[WHOLE, it.name, it.rtype]
-            ours, our_whole = (zone.follow(one, it.name, it.rtype) for one in (it.form, WHOLE))
-            self.compare(Difference(server, zone, it, ours, theirs[it], our_whole, theirs[whole]))
+            self.compare(Difference(server, zone, it, zone.ours[it], theirs[it], zone.ours[whole], theirs[whole]))
 
     def compare(self, it):
         claimed, rest = classes_of(it)

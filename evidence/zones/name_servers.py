@@ -173,8 +173,8 @@ def responses(name, zones):
 
 def answered(zone):
     """The octets of each response."""
-    said = by_stream([it for it in zone.sent if it.form.is_stream])
-    return said | {it: by_datagram(it.octets) for it in zone.sent if not it.form.is_stream}
+    said = by_stream([it for it in zone.queries if it.form.is_stream])
+    return said | {it: by_datagram(it.octets) for it in zone.queries if not it.form.is_stream}
 
 
 def by_datagram(query):

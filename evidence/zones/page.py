@@ -19,8 +19,6 @@ INTRO = [
     "and the answer, authority and additional sections as sets of records: owner, TTL, type and data. Case is ignored "
     "in names of records (RFC 4343, 3). A response is equal, or differs in ways that are listed below with their "
     "reasons, or fails.",
-    "`dnszone answer` follows no CNAME. So it is asked for the target of a CNAME, too, as "
-    "[domain_zone_answer](../../crates/domain_zone_answer/README.md) describes, and the whole chain is compared. "
     "{ask}",
     "The servers are set alike where they let it: the fewest records in a response, 1,232 octets in a datagram as "
     "`dnszone` has it, no limit of rate and no cookies.",
@@ -61,14 +59,14 @@ def intro(zones, left, kind):
         "texts": texts,
         "cases": len(zones) - texts + left,
         "left": left,
-        "questions": sum(len(it.sent) for it in zones) // len(FORMS),
+        "questions": sum(len(it.asked) for it in zones),
         "ask": "" if kind == "second" else ASK.format(asks=asks),
         "forms": len(FORMS),
         "titles": "; ".join(it.title for it in FORMS),
     }
-    for it in INTRO:
+    for it in filter(None, (it.format(**said) for it in INTRO)):
         yield ""
-        yield from wrapped(it.format(**said))
+        yield from wrapped(it)
 
 
 def table(trial, versions):

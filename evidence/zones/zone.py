@@ -11,12 +11,10 @@ import dns.rcode
 import dns.rdataclass
 import dns.tokenizer
 import dns.zonefile
-from dns.rdatatype import ANY, CNAME, DNAME, NS, OPT
+from dns.rdatatype import NS, OPT
 from name_servers import SIZE
 
 RD, CD, DO, LEAST, MOST = 0x0100, 0x0010, 0x8000, 512, 65535
-# The most names that aliases are followed to. A DNAME can lead to more than a hundred, each longer than the last.
-LINKS = 24
 PARTS = "rcode header tc question answer authority additional opt".split()
 SECTIONS = PARTS[4:7]
 
@@ -83,10 +81,6 @@ class Response:
     def aa(self):
         return bool(self.header[2] & dns.flags.AA)
 
-    def alias_of(self, name):
-        """Where the name leads, if the answer says so."""
-        return next((data.target for owner, _, rtype, data in self.answer if (owner, rtype) == (name, CNAME)), None)
-
 
 def response_of(octets):
     """What a message says. Octets that are no message raise an exception of dnspython."""
@@ -120,8 +114,8 @@ def target_of(data):
 
 
 class Zone:
-    """A zone: its name, apex and text, the records in it (if they aren't to be read), the questions, the queries to
-    the program, and those that are sent to servers, too."""
+    """A zone: its name, apex and text, the records in it (if they aren't to be read), the questions, and the queries
+    with them."""
 
     def __init__(self, name, apex, text, questions, records=None):
         self.name, self.apex, self.text, self.is_text = name, dns.name.from_text(apex), text, records is None
@@ -131,13 +125,10 @@ class Zone:
         self.records = self.lowered(records)
         for it in self.records:
             self.owners.setdefault(it[0], set()).add(it)
-        self.questions = questions(self) if callable(questions) else questions
-        reached = dict.fromkeys((name, rtype) for it, rtype in self.questions for name in self.reached(it))
-        self.asked = list(dict.fromkeys([*self.questions, *reached]))
+        self.asked = list(dict.fromkeys(questions(self) if callable(questions) else questions))
         numbered = ((form, *it) for form in FORMS for it in self.asked)
         self.by_question = {it: it[0].query(number % 65536, *it[1:]) for number, it in enumerate(numbered)}
         self.queries = [*self.by_question.values()]
-        self.sent = [self.by_question[form, *it] for form in FORMS for it in dict.fromkeys(self.questions)]
         self.ours = {}
 
     def names_from(self, name):
@@ -182,42 +173,3 @@ class Zone:
     def has(self, records):
         """Whether the zone has each of these records, or a wildcard in it makes them."""
         return all(it in self.owned(it[0]) for it in records)
-
-    def next_of(self, name):
-        """Where a CNAME or a DNAME leads from the name, if that is a name in the zone."""
-        target = next((target_of(it[3]) for it in self.rrset(name, CNAME)), None)
-        for above in [*self.names_from(name)][1:]:
-            for it in self.rrset(above, DNAME) if above in self.owners else ():
-                try:
-                    target = name.relativize(above).concatenate(target_of(it[3]))
-                except dns.name.NameTooLong:
-                    return None
-        return target if target is not None and target.is_subdomain(self.apex) else None
-
-    def reached(self, name):
-        """The names that CNAMEs and DNAMEs lead to, as many as are followed."""
-        seen = {name}
-        while len(seen) <= LINKS and (name := self.next_of(name)) is not None and name not in seen:
-            seen.add(name)
-            yield name
-
-    def follow(self, form, name, rtype):
-        """The program's response, with what follows after an alias in the zone (RFC 1034, 4.3.2, step 3a). A question
-        for any type goes on after a DNAME alone, whose CNAME was not asked for (RFC 6672, 3.2, step 3c)."""
-        first = last = self.ours[self.by_question[form, name, rtype]]
-        answer, tc, size, seen = first.answer, first.tc, first.size, {name}
-        while not last.tc and len(seen) <= LINKS:
-            target = self.next_name(last, name, rtype)
-            if target is None or target in seen:
-                break
-            seen.add(target)
-            last, name = self.ours[self.by_question[form, target, rtype]], target
-            answer, tc, size = answer | last.answer, tc or last.tc, size + last.size
-        rest = {"authority": last.authority, "additional": last.additional, "rcode": last.rcode}
-        return dataclasses.replace(first, answer=answer, tc=tc, size=size, **rest)
-
-    def next_name(self, response, name, rtype):
-        target = response.alias_of(name)
-        if rtype == CNAME or (rtype == ANY and DNAME not in {it[2] for it in response.answer}):
-            return None
-        return target if target is not None and target.is_subdomain(self.apex) else None
