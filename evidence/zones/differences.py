@@ -129,7 +129,8 @@ def is_long_chain(it):
 
 def is_second_turn(it):
     is_redirected = DNAME in {rtype for *_, rtype, _ in it.theirs.answer}
-    return is_redirected and len(links(it.our_whole.answer)) > 1 and it.theirs.answer < it.our_whole.answer
+    is_longer = len(links(it.our_whole.answer)) > 1 and it.theirs.answer < it.our_whole.answer
+    return is_redirected and (is_longer or it.our_whole.rcode == "YXDOMAIN")
 
 
 def is_any_past_dname(it):
@@ -171,6 +172,12 @@ def lacks_room(it):
 def copies_cd(it):
     (number, opcode, ours), (*its, theirs) = it.ours.header, it.theirs.header
     return [number, opcode] == its and ours ^ theirs == dns.flags.CD and theirs & dns.flags.CD
+
+
+def is_authentic(it):
+    """Whether AD is set in a response without records."""
+    (number, opcode, ours), (*its, theirs) = it.ours.header, it.theirs.header
+    return [number, opcode] == its and theirs ^ ours == dns.flags.AD and theirs & dns.flags.AD and not records(it.theirs)
 
 
 def explains(it):
@@ -289,6 +296,13 @@ CLASSES = [
         copies_cd,
         "A security-aware server should clear CD in an authoritative response (RFC 4035, 3.1.6). BIND copies it, as a "
         "recursive server must (RFC 4035, 3.2.2).",
+    ),
+    (
+        "named",
+        "header",
+        is_authentic,
+        "AD says that all records of the answer and authority sections are authentic (RFC 4035, 3.1.6). BIND sets it "
+        "where there are none.",
     ),
     (
         ALL,
