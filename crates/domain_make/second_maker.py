@@ -11,6 +11,9 @@ import second as messages
 SERVICES = (64, 65)
 # These types have their fields in class IN alone (RFC 1035, 3.4; RFC 2163, 2230, 2782, 3596 and 9460).
 OF_INTERNET = (1, 26, 28, 33, 36, 64, 65)
+# These types are character strings as TXT is (RFC 4408, 3.1.1; AVC as IANA registered it), which the reader of messages
+# takes for octets.
+STRINGS = (99, 258)
 REMEMBERED, FARTHEST = 128, 0x3FFF
 
 # Why nothing is made of the lines of a message.
@@ -84,18 +87,33 @@ def bitmaps_of(data):
     return b"".join(bytes([it, len(bits.rstrip(b"\0"))]) + bits.rstrip(b"\0") for it, bits in sorted(windows.items()))
 
 
+def are_strings(octets):
+    """Whether octets are character strings, one or more (RFC 1035, 3.3)."""
+    at = 0
+    while at < len(octets):
+        at += 1 + octets[at]
+    return 0 < at == len(octets)
+
+
 def data_of(rtype, rclass, data):
     """The octets of a record's data, or why they aren't made of its text."""
     whole = messages.Reader(data.octets, data.place, data.end)
-    if data.place == data.end and rclass in (254, 255):
+    octets = bytes(data.octets[data.place : data.end])
+    if not octets and rclass in (254, 255):
         return b""
+    has_other_class = rtype in OF_INTERNET and rclass != 1
     try:
         plain = messages.of_any(rtype, data, messages.ALL)[0]
     except messages.Refused:
+        # They are shown after the mark of RFC 3597, 5, and in that class they are data of no known fields.
+        if has_other_class:
+            return octets
         raise Refused(UNREAD) from None
+    if rtype in STRINGS and not are_strings(octets):
+        raise Refused(UNREAD)
     if rtype not in messages.ALL:
         return plain
-    if rtype in OF_INTERNET and rclass != 1:
+    if has_other_class:
         raise Refused(CLASS)
     if rtype in SERVICES:
         raise Refused(PARAMETERS)
