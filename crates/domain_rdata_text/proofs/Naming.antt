@@ -1,7 +1,7 @@
 -- Each name that a word is, is in wire format, if the origin is.
 use Rattle.std.proofs.Common.{◌≡◌, ◌∙◌, ◌⊎◌, ℕ, ◌+◌, ◌-◌, ◌<◌, ◌≤◌, Bool, true, false, ◌&&◌, List, [], ◌∷◌, ◌++◌, cond, length, nat_lt, nat_le, Option, Some, None, refl, sym, ap, subst, inl, inr, length-append, arith}
 use Rattle.std.proofs.lemmas.Bool.{and_parts, false≢true, leb-true, ltb-true}
-use Rattle.domain_label.specs.Wire.{IsAbsolute, IsAbsoluteWire, IsRelative, labels_in, Root, wire}
+use Rattle.domain_label.specs.Wire.{IsAbsoluteName, IsAbsoluteWire, IsRelative, labels_in, Root, wire}
 use Rattle.domain_label.proofs.WireLaws.{relative_then_absolute, wire_absolute, wire_append}
 use Rattle.domain_rdata_text.specs.Laws.{IsNamed, IsOrigin}
 use Rattle.domain_rdata_text.specs.Names.{absolute, are_labels_in, completed, is_alone, name_of_some, name_of_symbols, NameParts, parts_from, read_name, relative, whole_name, with_end}
@@ -54,7 +54,8 @@ with_end_is ls end r d h =
           let w : wire (ls ++ rs) ≡ wire ls ++ end = wire_append ls rs ∙ ap (λ (x : List ℕ). wire ls ++ x) d.0 in
           let size : length end ≤ 255 = subst (λ (x : List ℕ). length x ≤ 255) d.0 d.1.1 in
           let short : length (wire ls ++ end) ≤ 255 = omega (arith, it.1, size, length-append (wire ls) end) in
-          let name = (relative_then_absolute ls rs it.0 d.1.0, subst (λ (x : List ℕ). length x ≤ 255) (sym w) short) in
+          let name : IsAbsoluteName (ls ++ rs) =
+              (relative_then_absolute ls rs it.0 d.1.0, subst (λ (x : List ℕ). length x ≤ 255) (sym w) short) in
           subst (λ (x : List ℕ). IsAbsoluteWire x) (w ∙ same_some (wire ls ++ end) r a) (wire_absolute (ls ++ rs) name)
       | inr (none, a) ↦ absurd (not_both r a)
     ]
