@@ -69,8 +69,8 @@ typedef enum dnsnames_zone_status {
 } dnsnames_zone_status;
 
 /* Reads the text of a zone (RFC 1035, 5) at this apex, a name in wire format, and of this class. Until $ORIGIN says
- * otherwise, relative names go on with the apex; until a record says otherwise, its class is that of the zone. $INCLUDE
- * is refused. Names in data have their final dot.
+ * otherwise, relative names go on with the apex, in data too, and @ is the apex; until a record says otherwise, its
+ * class is that of the zone. $INCLUDE is refused.
  *
  * Another number than DNSNAMES_ZONE_OK says why the text is that of no zone, and *place where. A zone that was held is
  * freed where the new one is loaded, and else kept. */

@@ -70,8 +70,8 @@ fn load_into(
 }
 
 /// Reads the text of a zone into a slot (RFC 1035, 5). The apex is a name in wire format. Until `$ORIGIN` says
-/// otherwise, relative names go on with the apex; until a record says otherwise, the class of records is that of the
-/// zone. A zone that the slot held is freed.
+/// otherwise, relative names go on with the apex, in data too, and `@` is the apex; until a record says otherwise, the
+/// class of records is that of the zone. A zone that the slot held is freed.
 ///
 /// 9 exactly where the apex is no absolute name. Each other number than 0 says why the text is that of no zone
 /// (`load_number`), and `line`, `column` and `index` say where (`error_place`): line and column are those of the first
