@@ -1,5 +1,5 @@
 -- What is shown is read back.
-use Rattle.std.proofs.Common.{◌≡◌, ◌∙◌, ℕ, ◌-◌, ◌≤◌, Bool, true, false, ◌==◌, cond, nat_le, List, [], ◌∷◌, ◌++◌, length, Option, Some, Result, Ok, Err, refl, sym, ap, append_assoc, append-nil, arith}
+use Rattle.std.proofs.Common.{◌≡◌, ◌∙◌, ℕ, ◌-◌, ◌≤◌, Bool, true, false, ◌==◌, cond, nat_le, List, [], ◌∷◌, ◌++◌, length, Option, Some, Result, Ok, Err, refl, sym, ap, subst, append_assoc, append-nil, arith}
 use Rattle.std.specs.List.{AllByRecursion, flat_map}
 use Rattle.std.specs.Fmt.{decimal}
 use Rattle.std.proofs.lemmas.Bool.{false≢true, cond-true, cond-false, eq-eqb, le-leb}
@@ -11,8 +11,8 @@ use Rattle.domain_rdata_text.specs.declared.form.TextForm.{TextForm}
 use Rattle.domain_rdata_text.specs.Hex.{hex_in_words, hex_words, generic_words, counted_octets, read_generic}
 use Rattle.domain_rdata_text.specs.Laws.{AreOctets, AreReadBack}
 use Rattle.domain_rdata_text.specs.Outcome.{fault}
-use Rattle.domain_rdata_text.specs.Texts.{val_words, is_nil, has_text, takes_all, in_fields, data_text, SoFar, so_far, take_field, read_fields, only_data, fields_octets, starts_mark, split_octets, text_octets_with}
-use Rattle.domain_rdata_text.specs.Values.{Val, val_octets, vals_octets}
+use Rattle.domain_rdata_text.specs.Texts.{val_words, is_nil, has_text, takes_all, in_fields, data_words, data_text, SoFar, so_far, take_field, read_fields, only_data, fields_octets, starts_mark, split_octets, text_octets_with}
+use Rattle.domain_rdata_text.specs.Values.{Val, val_octets, vals_octets, ValuesAt}
 use Rattle.domain_rdata_text.specs.Words.{joined}
 use Rattle.domain_rdata_text.proofs.Holding.{AllHeld, values_held, vals_low}
 use Rattle.domain_rdata_text.proofs.Marking.{first_no_mark}
@@ -82,7 +82,7 @@ in_fields_back origin kinds vs h f short =
 -- ---- data of any type
 generic_are_words : (os : List ℕ) → AreOctets os → length os ≤ 65535 → AllByRecursion IsWord (generic_words os)
 generic_are_words os b h =
-    ((bare_slash 35, omega arith), ((bare_number (length os) (omega (arith, h)), decimal_nonempty (length os) (omega (arith, h))), hex_are_words os b))
+    ((bare_slash 35 refl, omega arith), ((bare_number (length os) (omega (arith, h)), decimal_nonempty (length os) (omega (arith, h))), hex_are_words os b))
 
 generic_back : (origin : Option (List ℕ)) (kinds : List FieldKind) (os : List ℕ) → AreOctets os → length os ≤ 65535 → text_octets_with origin kinds (joined (generic_words os)) ≡ Ok os
 generic_back origin kinds os b h =
@@ -107,3 +107,14 @@ back_if origin false kinds vs f h short =
 
 pub all_back : (kinds : List FieldKind) (m : List ℕ) (p : ℕ) (vs : List Val) (e : ℕ) → AreReadBack kinds m p vs e
 all_back kinds m p vs e low at short origin = back_if origin (in_fields vs) kinds vs refl (values_held kinds m p vs e low at) short
+
+words_if : (f : Bool) (kinds : List FieldKind) (vs : List Val) → in_fields vs ≡ f → AllHeld kinds vs → length (vals_octets vs) ≤ 65535 → AllByRecursion IsWord (data_words vs)
+words_if true kinds vs f h short =
+    subst (AllByRecursion IsWord) (sym (cond-true (in_fields vs) (flat_map val_words vs) (generic_words (vals_octets vs)) f)) (fields_words kinds vs h)
+words_if false kinds vs f h short =
+    subst (AllByRecursion IsWord) (sym (cond-false (in_fields vs) (flat_map val_words vs) (generic_words (vals_octets vs)) f))
+    (generic_are_words (vals_octets vs) (vals_low kinds vs h) short)
+
+-- What the fields of data hold is written in words.
+pub data_are_words : (kinds : List FieldKind) (m : List ℕ) (p : ℕ) (vs : List Val) (e : ℕ) → AreOctets m → ValuesAt kinds m p vs e → length (vals_octets vs) ≤ 65535 → AllByRecursion IsWord (data_words vs)
+data_are_words kinds m p vs e low at short = words_if (in_fields vs) kinds vs refl (values_held kinds m p vs e low at) short

@@ -41,7 +41,7 @@ use Rattle.domain_rdata_text.proofs.Windows.{AreTypes, no_bitmaps}
 label_some : (l rest : List ℕ) → 0 < length (label_text l ++ rest)
 label_some l rest = grind (arith, common_steps)
 
-name_some : (ls : List (List ℕ)) → 0 < length (name_text ls)
+pub name_some : (ls : List (List ℕ)) → 0 < length (name_text ls)
 name_some [] = omega arith
 name_some (l ∷ ls) = label_some l (flat_map label_text ls)
 
@@ -52,7 +52,7 @@ ipv4_some : (os : List ℕ) → length os ≡ 4 → AreOctets os → 0 < length 
 ipv4_some [] h b = absurd (omega (arith, h))
 ipv4_some (n ∷ ns) h b = longer (decimal n) (dotted ns) (decimal_nonempty n (omega (arith, b.0)))
 
-number_word : (n : ℕ) → n < 2 ^ 64 → IsWord (decimal n)
+pub number_word : (n : ℕ) → n < 2 ^ 64 → IsWord (decimal n)
 number_word n h = (bare_number n h, decimal_nonempty n h)
 
 string_word : (s : List ℕ) → AreOctets s → IsWord (string_text s)

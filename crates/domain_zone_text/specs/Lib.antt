@@ -6,4 +6,5 @@ pub mod Heads
 pub mod Directives
 pub mod Meanings
 pub mod Reading
+pub mod Lines
 pub mod Readers

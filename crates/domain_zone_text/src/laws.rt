@@ -2,6 +2,7 @@
 ghost use Rattle.std.specs.Prelude.{◌≡◌, ℕ, List, [], Ok};
 ghost use Rattle.domain_zone_text.specs.declared.error.EntryFault.{EntryFault};
 ghost use Rattle.domain_zone_text.specs.Entries.{cut, IsLinesAndRest, part};
+ghost use Rattle.domain_zone_text.specs.Lines.{Written, IsRecord, ReadsRecords, record_lines};
 ghost use Rattle.domain_zone_text.specs.Meanings.{HasWords, Setting};
 ghost use Rattle.domain_zone_text.specs.Reading.{EntrySaid, HasNames, IsEntryFault, ReadsEntry, SaysNames};
 
@@ -41,4 +42,11 @@ pub fn lines_law()
 pub fn names_law()
     ensures { (s : Setting) (text : List ℕ) (said : EntrySaid) (rest : List ℕ) (new : Setting)
         → ReadsEntry s text said rest new → HasNames s → SaysNames said × HasNames new }
+{}
+
+/// The call does nothing: its contract is the law. The lines of records are read as these records, and as nothing else,
+/// whatever entries came before: so a zone that is written is read as the same zone.
+pub fn written_law()
+    ensures { (rs : List Written) → AllByRecursion IsRecord rs → (s : Setting)
+        → ReadsRecords s (record_lines rs) rs }
 {}
