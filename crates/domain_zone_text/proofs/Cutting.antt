@@ -1,6 +1,6 @@
 -- A line of words is the octets of an entry.
 use Rattle.std.proofs.Common.{◌≡◌, ◌∙◌, ◌⊎◌, ℕ, Bool, true, false, ◌==◌, ◌||◌, List, [], ◌∷◌, ◌++◌, cond, length, Result, Ok, Err, refl, sym, ap, subst, ⊎_elim, append_assoc, append-nil}
-use Rattle.std.proofs.lemmas.Bool.{cond-true, cond-false, eqb-true, ne_eqb, or_parts, true≢false}
+use Rattle.std.proofs.lemmas.Bool.{cond-false, eqb-true, ne_eqb, or_parts, true≢false}
 use Rattle.domain_rdata_text.specs.declared.error.Fault.{Fault}
 use Rattle.domain_rdata_text.specs.declared.error.Reason.TheVariants.{OpenQuote, LoneBackslash, Parenthesis}
 use Rattle.domain_rdata_text.specs.declared.words.Mode.{Mode as WordMode}
@@ -8,10 +8,11 @@ use Rattle.domain_rdata_text.specs.declared.words.Mode.TheVariants as modes
 use Rattle.domain_rdata_text.specs.Outcome.{fault as word_fault}
 use Rattle.domain_rdata_text.specs.Words.{WordAt, split, split_from, is_blank, closed, place as word_place, after_bare, after_quoted}
 use Rattle.domain_rdata_text.proofs.Splitting.{OneLine}
+use Rattle.domain_zone_text.specs.declared.error.EntryFault.{EntryFault}
 use Rattle.domain_zone_text.specs.declared.error.EntryReason.TheVariants.{ClosingParenthesis}
 use Rattle.domain_zone_text.specs.declared.entry.Mode.{Mode}
 use Rattle.domain_zone_text.specs.declared.entry.Mode.TheVariants.{Bare, Slash, Quoted, QuotedSlash, Comment}
-use Rattle.domain_zone_text.specs.Entries.{after, cut, cut_from, part, place}
+use Rattle.domain_zone_text.specs.Entries.{after, cut, cut_from, Part, part, place}
 use Rattle.domain_zone_text.specs.Outcome.{fault}
 use Rattle.domain_zone_text.proofs.Splitting.{chosen}
 
@@ -40,8 +41,8 @@ other c d e h k = ap (λ (x : ℕ). x == e) (eqb-true c d h) ∙ k
 -- it neither ends a line nor is a parenthesis
 record IsPlain (c : ℕ) : Type 0 where
   line : (c == 10) ≡ false
-  open : (c == 40) ≡ false
-  close : (c == 41) ≡ false
+  opening : (c == 40) ≡ false
+  closing : (c == 41) ≡ false
 
 -- the three tests that an octet outside quotes passes
 three : {A : Type 0} (p q r : Bool) (a b c z : A) → p ≡ false → q ≡ false → r ≡ false → cond p a (cond q b (cond r c z)) ≡ z
@@ -54,7 +55,7 @@ bare_step : (n o c : ℕ) (os cs : List ℕ) → IsPlain c → cut_from n os Bar
 bare_step n o c os cs p =
     let at = place n (c ∷ cs) in
     three (c == 10) (c == 40) (c == 41) (Ok (part os cs)) (cut_from n (os ++ 32 ∷ []) Bare 1 at cs) (Err (fault at ClosingParenthesis))
-    (cut_from n (os ++ c ∷ []) (after Bare at c) 0 o cs) p.line p.open p.close
+    (cut_from n (os ++ c ∷ []) (after Bare at c) 0 o cs) p.line p.opening p.closing
 
 -- what comes after it, among words
 after_blank : (p c : ℕ) → is_blank c ≡ true → of_words (after Bare p c) ≡ modes.Bare
@@ -82,10 +83,13 @@ abbrev IsCut : Mode → List ℕ → Type 0
 IsCut m text = (k : ℕ) (ws : List WordAt) (w : List ℕ) (ts : List WordAt) → split_from k ws w (of_words m) text ≡ Ok ts
     → (n o : ℕ) (os rest : List ℕ) → cut_from n os m 0 o (text ++ 10 ∷ rest) ≡ Ok (part (os ++ text) rest)
 
-joins : (c : ℕ) (os cs rest : List ℕ) → Ok (part ((os ++ c ∷ []) ++ cs) rest) ≡ Ok (part (os ++ c ∷ cs) rest)
+abbrev AreSame : Result Part EntryFault → Result Part EntryFault → Type 0
+AreSame a b = a ≡ b
+
+joins : (c : ℕ) (os cs rest : List ℕ) → AreSame (Ok (part ((os ++ c ∷ []) ++ cs) rest)) (Ok (part (os ++ c ∷ cs) rest))
 joins c os cs rest = ap (λ (x : List ℕ). Ok (part x rest)) (append_assoc os (c ∷ []) cs)
 
-ends_line : (os rest : List ℕ) → Ok (part os rest) ≡ Ok (part (os ++ []) rest)
+ends_line : (os rest : List ℕ) → AreSame (Ok (part os rest)) (Ok (part (os ++ []) rest))
 ends_line os rest = ap (λ (x : List ℕ). Ok (part x rest)) (sym (append-nil os))
 
 -- the octet c outside quotes, and then words
@@ -106,13 +110,13 @@ bare_all c cs line more k ws w ts h n o os rest =
     let refused : Result (List WordAt) Fault = Err (word_fault end Parenthesis) in
     let word = split_from k ws (w ++ c ∷ []) (after_bare c) cs in
     ⊎_elim
-    (λ x. bare_more c cs (record { line = line; open = not_blank c 40 x.0 refl; close = not_blank c 41 x.0 refl }) modes.Bare (λ p. after_blank p c x.0) more k (closed ws w end) [] ts x.1 n o os rest)
+    (λ x. bare_more c cs (record { line = line; opening = not_blank c 40 x.0 refl; closing = not_blank c 41 x.0 refl }) modes.Bare (λ p. after_blank p c x.0) more k (closed ws w end) [] ts x.1 n o os rest)
     (λ x. ⊎_elim
-      (λ y. bare_more c cs (record { line = line; open = other c 59 40 y.0 refl; close = other c 59 41 y.0 refl }) modes.Comment (λ p. after_semicolon p c y.0) more k (closed ws w end) [] ts y.1 n o os rest)
+      (λ y. bare_more c cs (record { line = line; opening = other c 59 40 y.0 refl; closing = other c 59 41 y.0 refl }) modes.Comment (λ p. after_semicolon p c y.0) more k (closed ws w end) [] ts y.1 n o os rest)
       (λ y. ⊎_elim
         (λ z. no_words (word_fault end Parenthesis) ts (cut_from n os Bare 0 o ((c ∷ cs) ++ 10 ∷ rest) ≡ Ok (part (os ++ c ∷ cs) rest)) z.1)
         (λ z. let parts = or_parts (c == 40) (c == 41) z.0 in
-          bare_more c cs (record { line = line; open = parts.0; close = parts.1 }) (after_bare c) (λ p. after_other p c y.0) more k ws (w ++ c ∷ []) ts z.1 n o os rest)
+          bare_more c cs (record { line = line; opening = parts.0; closing = parts.1 }) (after_bare c) (λ p. after_other p c y.0) more k ws (w ++ c ∷ []) ts z.1 n o os rest)
         (chosen (c == 40 || c == 41) refused word (Ok ts) y.1))
       (chosen (c == 59) comment (cond (c == 40 || c == 41) refused word) (Ok ts) x.1))
     (chosen (is_blank c) blank (cond (c == 59) comment (cond (c == 40 || c == 41) refused word)) (Ok ts) h)

@@ -1,5 +1,5 @@
 -- A record that is written as a line is read.
-use Rattle.std.proofs.Common.{◌≡◌, ◌∙◌, ℕ, ◌-◌, ◌^◌, ◌<◌, ◌≤◌, Bool, true, false, ◌==◌, ◌||◌, List, [], ◌∷◌, ◌++◌, cond, drop, length, Option, Some, None, Result, Ok, Err, refl, sym, ap, subst, append_assoc, length-append, arith}
+use Rattle.std.proofs.Common.{◌≡◌, ◌∙◌, ℕ, ◌-◌, ◌<◌, Bool, true, false, ◌==◌, ◌||◌, List, [], ◌∷◌, ◌++◌, drop, length, Option, Some, None, Result, Ok, refl, sym, ap, subst, append_assoc, length-append, arith}
 use Rattle.std.specs.Fmt.{decimal}
 use Rattle.std.specs.List.{AllByRecursion, flat_map}
 use Rattle.std.proofs.lemmas.Bool.{cond-false, false≢true}
@@ -14,7 +14,7 @@ use Rattle.domain_rdata_text.specs.Rtypes.{type_text}
 use Rattle.domain_rdata_text.specs.Symbols.{octet_text}
 use Rattle.domain_rdata_text.specs.Texts.{data_words, text_octets_with}
 use Rattle.domain_rdata_text.specs.Values.{vals_octets}
-use Rattle.domain_rdata_text.specs.Words.{WordAt, word, split, spaced, joined}
+use Rattle.domain_rdata_text.specs.Words.{WordAt, word, spaced, joined}
 use Rattle.domain_rdata_text.proofs.Reading.{name_back}
 use Rattle.domain_rdata_text.proofs.Returning.{all_back, data_are_words}
 use Rattle.domain_rdata_text.proofs.Splitting.{IsWord, ends_before, placed, words_split, words_line, bare_name}
@@ -25,12 +25,12 @@ use Rattle.domain_rdata_text.proofs.Types.{bare_type, type_some}
 use Rattle.domain_zone_text.specs.declared.error.EntryFault.{EntryFault}
 use Rattle.domain_zone_text.specs.declared.head.Head.{Head}
 use Rattle.domain_zone_text.specs.Directives.{directive, is_directive}
-use Rattle.domain_zone_text.specs.Entries.{cut, part}
-use Rattle.domain_zone_text.specs.Heads.{begin_of, head, head_at, stated, stated_words, with_word, first_stated, with_ttl, with_class, typed_words, after_two}
+use Rattle.domain_zone_text.specs.Entries.{cut}
+use Rattle.domain_zone_text.specs.Heads.{begin_of, head, head_at, stated, with_word, first_stated, with_ttl, with_class, typed_words, after_two}
 use Rattle.domain_zone_text.specs.Lines.{Written, record_words, record_line, record_lines, IsRecord, record_said, after_record, ReadsRecords}
-use Rattle.domain_zone_text.specs.Meanings.{Setting, RecordFront, Said, with_defaults, said_line, said_front, of_last_owner, of_owner, words_meaning, Means}
+use Rattle.domain_zone_text.specs.Meanings.{Setting, RecordFront, with_defaults, said_line, said_front, of_owner, words_meaning, Means}
 use Rattle.domain_zone_text.specs.Meanings.Said.{record_front}
-use Rattle.domain_zone_text.specs.Mnemonics.{class_named, rtype_named}
+use Rattle.domain_zone_text.specs.Mnemonics.{class_named}
 use Rattle.domain_zone_text.specs.Reading.{IsFrontData, is_indented, ReadsEntry}
 use Rattle.domain_zone_text.specs.Ttls.{ttl}
 use Rattle.domain_zone_text.proofs.Cutting.{line_cut}
@@ -42,7 +42,7 @@ spaced_parts [] vs = refl
 spaced_parts (u ∷ us) vs = ap (λ (x : List ℕ). 32 ∷ (u ++ x)) (spaced_parts us vs) ∙ ap (λ (x : List ℕ). 32 ∷ x) (sym (append_assoc u (spaced us) (spaced vs)))
 
 ends_at : (n : ℕ) (us : List (List ℕ)) → ends_before n us ≡ n - length (spaced us)
-ends_at n [] = refl
+ends_at n [] = omega arith
 ends_at n (u ∷ us) = refl
 
 -- From there on the text is these words.
@@ -65,7 +65,7 @@ record Begins (c : ℕ) : Type 0 where
   dollar : (c == 36) ≡ false
 
 -- A text begins so.
-BeginsWell : List ℕ → Type 0
+abbrev BeginsWell : List ℕ → Type 0
 BeginsWell t = (c : ℕ) × (v : List ℕ) × (t ≡ c ∷ v) × Begins c
 
 begins_slash : Begins 92
@@ -194,6 +194,7 @@ holds_data o r is =
     }
 
 reads_record : (s : Setting) (r : Written) (rest : List ℕ) → IsRecord r → ReadsEntry s (record_line r ++ rest) (record_said r) rest (after_record s r)
+unfolding means_record
 reads_record s r rest is = record {
   octets = text_of r;
   means = record_front (front_of r);

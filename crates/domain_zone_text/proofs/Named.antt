@@ -1,9 +1,9 @@
 -- Classes, types and TTLs that are written are read.
-use Rattle.std.proofs.Common.{◌≡◌, ◌∙◌, ℕ, ◌+◌, ◌-◌, ◌*◌, ◌/◌, ◌%◌, ◌^◌, ◌<◌, ◌≤◌, Bool, true, false, ◌==◌, ◌&&◌, cond, nat_lt, nat_le, List, [], ◌∷◌, ◌++◌, length, codes, Option, Some, None, refl, sym, ap, subst, append_assoc, append-nil, arith}
+use Rattle.std.proofs.Common.{◌≡◌, ◌∙◌, ℕ, ◌+◌, ◌-◌, ◌*◌, ◌/◌, ◌%◌, ◌^◌, ◌<◌, Bool, true, false, ◌==◌, ◌&&◌, cond, nat_lt, nat_le, List, [], ◌∷◌, ◌++◌, length, codes, Option, Some, None, refl, sym, ap, subst, append_assoc, append-nil, arith}
 use Rattle.std.specs.Prelude.{unwrap_or}
 use Rattle.std.specs.Fmt.{decimal}
 use Rattle.std.specs.List.{list_all}
-use Rattle.std.proofs.lemmas.Bool.{and_parts, cond-true, cond-false, eqb-true, le-leb, lt-ltb, agree_below_at, ltb-true}
+use Rattle.std.proofs.lemmas.Bool.{and_parts, cond-true, eqb-true, le-leb, lt-ltb, agree_below_at, ltb-true}
 use Rattle.std.proofs.lemmas.Fmt.{decimal_by_steps, decimal_nonempty}
 use Rattle.domain_header.specs.Mnemonics.{Row, word_of}
 use Rattle.domain_header.specs.Rtypes.{rtype_rows}
@@ -37,7 +37,7 @@ count_step n d low small rest =
     ∙ ap (λ (x : ℕ). number_from x rest) same)
 
 counts : (n : ℕ) → n < 2 ^ 64 → Counts n (decimal n)
-counts = decimal_by_steps Counts (λ m low small rest. count_step 0 m low small rest)
+counts = decimal_by_steps Counts (λ m low small rest. count_step 0 m low (omega (arith, small)) rest ∙ ap (λ (x : ℕ). number_from x rest) (omega arith))
     (λ m ds high before small rest.
     let tail = (48 + m % 10) ∷ [] in
     let whole : m / 10 * 10 + m % 10 ≡ m = omega arith in
@@ -116,15 +116,19 @@ text_back rows word n good other =
     text_by (λ t. named rows word t ≡ Some n) word n (word_of rows n) (λ w is. row_named rows word rows good n w is) other
 
 classes_named : list_all (names_row class_rows (codes "CLASS")) class_rows ≡ true
+unfolding row_number
 classes_named = refl
 
 types_named : list_all (names_row rtype_rows (codes "TYPE")) rtype_rows ≡ true
+unfolding row_number
 types_named = refl
 
 class_number : (ds : List ℕ) → named class_rows (codes "CLASS") (codes "CLASS" ++ ds) ≡ number ds
+unfolding row_number
 class_number ds = refl
 
 type_number : (ds : List ℕ) → named rtype_rows (codes "TYPE") (codes "TYPE" ++ ds) ≡ number ds
+unfolding row_number
 type_number ds = refl
 
 pub class_back : (n : ℕ) → n < 65536 → class_named (class_text n) ≡ Some n

@@ -1,5 +1,6 @@
 //! Laws of the text of zones.
 ghost use Rattle.std.specs.Prelude.{◌≡◌, ℕ, List, [], Ok};
+ghost use Rattle.std.specs.List.{AllByRecursion};
 ghost use Rattle.domain_zone_text.specs.declared.error.EntryFault.{EntryFault};
 ghost use Rattle.domain_zone_text.specs.Entries.{cut, IsLinesAndRest, part};
 ghost use Rattle.domain_zone_text.specs.Lines.{Written, IsRecord, ReadsRecords, record_lines};
