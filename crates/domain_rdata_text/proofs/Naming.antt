@@ -1,10 +1,10 @@
 -- Each name that a word is, is in wire format, if the origin is.
-use Rattle.std.proofs.Common.{◌≡◌, ◌∙◌, ◌⊎◌, ℕ, ◌+◌, ◌-◌, ◌<◌, ◌≤◌, Bool, true, false, ◌&&◌, List, [], ◌∷◌, ◌++◌, cond, length, nat_lt, nat_le, Option, Some, None, refl, sym, ap, subst, inl, inr, length-append, arith}
+use Rattle.std.proofs.Common.{◌≡◌, ◌∙◌, ◌⊎◌, ℕ, ◌+◌, ◌-◌, ◌≤◌, Bool, true, false, ◌&&◌, List, [], ◌∷◌, ◌++◌, cond, length, nat_lt, nat_le, Option, Some, None, refl, sym, ap, subst, inl, inr, length-append, arith}
 use Rattle.std.proofs.lemmas.Bool.{and_parts, false≢true, leb-true, ltb-true}
 use Rattle.domain_label.specs.Wire.{IsAbsoluteName, IsAbsoluteWire, IsRelative, labels_in, Root, wire}
 use Rattle.domain_label.proofs.WireLaws.{relative_then_absolute, wire_absolute, wire_append}
 use Rattle.domain_rdata_text.specs.Laws.{IsNamed, IsOrigin}
-use Rattle.domain_rdata_text.specs.Names.{absolute, are_labels_in, completed, is_alone, name_of_some, name_of_symbols, NameParts, parts_from, read_name, relative, whole_name, with_end}
+use Rattle.domain_rdata_text.specs.Names.{absolute, are_labels_in, completed, is_alone, name_of_some, name_of_symbols, NameParts, parts_from, relative, whole_name, with_end}
 use Rattle.domain_rdata_text.specs.Symbols.{symbols}
 use Rattle.domain_rdata_text.specs.declared.symbols.Symbol.{Symbol}
 
