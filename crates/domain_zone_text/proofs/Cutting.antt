@@ -112,13 +112,13 @@ bare_all c cs line more k ws w ts h n o os rest =
     ⊎_elim
     (λ x. bare_more c cs (record { line = line; opening = not_blank c 40 x.0 refl; closing = not_blank c 41 x.0 refl }) modes.Bare (λ p. after_blank p c x.0) more k (closed ws w end) [] ts x.1 n o os rest)
     (λ x. ⊎_elim
-      (λ y. bare_more c cs (record { line = line; opening = other c 59 40 y.0 refl; closing = other c 59 41 y.0 refl }) modes.Comment (λ p. after_semicolon p c y.0) more k (closed ws w end) [] ts y.1 n o os rest)
-      (λ y. ⊎_elim
-        (λ z. no_words (word_fault end Parenthesis) ts (cut_from n os Bare 0 o ((c ∷ cs) ++ 10 ∷ rest) ≡ Ok (part (os ++ c ∷ cs) rest)) z.1)
-        (λ z. let parts = or_parts (c == 40) (c == 41) z.0 in
-          bare_more c cs (record { line = line; opening = parts.0; closing = parts.1 }) (after_bare c) (λ p. after_other p c y.0) more k ws (w ++ c ∷ []) ts z.1 n o os rest)
-        (chosen (c == 40 || c == 41) refused word (Ok ts) y.1))
-      (chosen (c == 59) comment (cond (c == 40 || c == 41) refused word) (Ok ts) x.1))
+    (λ y. bare_more c cs (record { line = line; opening = other c 59 40 y.0 refl; closing = other c 59 41 y.0 refl }) modes.Comment (λ p. after_semicolon p c y.0) more k (closed ws w end) [] ts y.1 n o os rest)
+    (λ y. ⊎_elim
+    (λ z. no_words (word_fault end Parenthesis) ts (cut_from n os Bare 0 o ((c ∷ cs) ++ 10 ∷ rest) ≡ Ok (part (os ++ c ∷ cs) rest)) z.1)
+    (λ z. let parts = or_parts (c == 40) (c == 41) z.0 in
+    bare_more c cs (record { line = line; opening = parts.0; closing = parts.1 }) (after_bare c) (λ p. after_other p c y.0) more k ws (w ++ c ∷ []) ts z.1 n o os rest)
+    (chosen (c == 40 || c == 41) refused word (Ok ts) y.1))
+    (chosen (c == 59) comment (cond (c == 40 || c == 41) refused word) (Ok ts) x.1))
     (chosen (is_blank c) blank (cond (c == 59) comment (cond (c == 40 || c == 41) refused word)) (Ok ts) h)
 
 cut_line : (text : List ℕ) → OneLine text → (m : Mode) → IsCut m text
