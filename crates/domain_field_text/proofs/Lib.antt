@@ -2,3 +2,5 @@ pub mod Naming
 pub mod Cutting
 pub mod Blocks
 pub mod Params
+pub mod Digits
+pub mod Sizes

@@ -21,7 +21,7 @@ ghost use Rattle.domain_field_text.specs.Held.{HasFieldText};
 use domain_descriptor::FieldKind;
 use domain_dnssec::{RtypeField, TimeField, TypeBitmaps};
 use domain_rdata::Rtype;
-use domain_strings::{Base16Octets, Base64Octets, QuotedOctets, Tag};
+use domain_strings::{Base16Octets, Base64Octets, CharString, QuotedOctets, Tag};
 use domain_svcb::SvcParams;
 use std::net::{IpAddr, Ipv4Addr, Ipv6Addr};
 
@@ -140,10 +140,10 @@ fn ipv4_held(octets: &[u8]) -> Option<FieldText<'_>>
     ensures { HasFieldText result
         (λ first. led first (option_map ipv4_text (of_size 4 octets.now))) }
 {
-    let [a, b, c, d] = octets else {
+    let Ok(octets) = <[u8; 4]>::try_from(octets) else {
         return None;
     };
-    let address = Ipv4Addr::from_octets([*a, *b, *c, *d]);
+    let address = Ipv4Addr::from_octets(octets);
     Some(FieldText::Address(IpAddr::V4(address)))
 }
 
@@ -152,12 +152,9 @@ fn ipv6_held(octets: &[u8]) -> Option<FieldText<'_>>
     ensures { HasFieldText result
         (λ first. led first (option_map ipv6_octets_text (of_size 16 octets.now))) }
 {
-    let [a, b, c, d, e, f, g, h, i, j, k, l, m, n, o, p] = octets else {
+    let Ok(octets) = <[u8; 16]>::try_from(octets) else {
         return None;
     };
-    let octets = [
-        *a, *b, *c, *d, *e, *f, *g, *h, *i, *j, *k, *l, *m, *n, *o, *p,
-    ];
     let address = Ipv6Addr::from_octets(octets);
     Some(FieldText::Address(IpAddr::V6(address)))
 }
@@ -207,10 +204,13 @@ fn strings_held(octets: &[u8]) -> Option<FieldText<'_>>
 fn tag_held(octets: &[u8]) -> Option<FieldText<'_>>
     ensures { HasFieldText result (λ first. led first (tag_of (behind_count octets.now))) }
 {
-    let Some(tag) = behind_count(octets) else {
+    let Some(octets) = behind_count(octets) else {
         return None;
     };
-    match Tag::from_octets(tag) {
+    let Ok(string) = CharString::from_octets(octets) else {
+        return None;
+    };
+    match Tag::from_string(string) {
         Ok(tag) => Some(FieldText::Tag(tag)),
         Err(_) => None,
     }
