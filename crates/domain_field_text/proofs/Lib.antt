@@ -4,3 +4,4 @@ pub mod Blocks
 pub mod Params
 pub mod Digits
 pub mod Sizes
+pub mod Holding

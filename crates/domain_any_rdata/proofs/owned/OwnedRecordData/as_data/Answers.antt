@@ -11,8 +11,8 @@ pub unreachable-requires : goal.unreachable-requires
 unreachable-requires c =
     let it = c.args.self.now in
     let kinds = known_fields (rtype_number it.rtype) (class_number it.class) in
-    no_fault kinds it.octets.items 0 it.certain _
-    (subst (λ (m : List ℕ). AreNoData kinds m 0 _) c.as_slice.ensures.value c.in-Err.ensures.err)
+    no_fault kinds it.octets.items 0 it.certain c.in-Err.field-0
+    (subst (λ (m : List ℕ). AreNoData kinds m 0 c.in-Err.field-0) c.as_slice.ensures.value c.in-Err.ensures.err)
 
 pub returns : goal.returns
 returns c =
