@@ -127,6 +127,11 @@ held_by : (f : Field) (held : Option FieldText) (first : Bool) → (field_kind f
     → HasFieldText held (λ b. field_octets_text b (field_kind f) (slice_range (field_message f) (field_begin f) (field_after f))) → part_text first (field_kind f) (part_of f) ≡ option_map (held_text first) held
 held_by f held first other has = ap (part_text first (field_kind f)) (octets_part f other) ∙ sym (has first)
 
+-- what was read of the octets of a field of this kind
+pub held_field : (f : Field) (k : FieldKind) (o : List ℕ) (held : Option FieldText) → k ≡ field_kind f → o ≡ slice_range (field_message f) (field_begin f) (field_after f) → HasFieldText held (λ b. field_octets_text b k o)
+    → HasFieldText held (λ b. field_octets_text b (field_kind f) (slice_range (field_message f) (field_begin f) (field_after f)))
+held_field f k o held kind octets has first = has first ∙ ap (λ x. field_octets_text first x o) kind ∙ ap (field_octets_text first (field_kind f)) octets
+
 pub name_told : (f : Field) (ls : List (List ℕ)) → field_kind f ≡ kinds.Name → Names 255 (field_message f) (field_begin f) ls → IsTold (field_kind f) (part_of f) true
 name_told f ls is named first = ap is_some (named_text f ls first is named)
 
