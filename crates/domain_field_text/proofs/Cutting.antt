@@ -19,7 +19,7 @@ one_cut len o =
     ap (λ ss. take len o ∷ ss) (cut_enough (length o) (length (drop len o)) (drop len o) (omega (arith, length-drop len o)) (omega arith))
 
 -- octets with one at the front, as a pattern takes them apart
-pub head_and_tail : (o : List ℕ) (n : ℕ) → 1 ≤ length o → n ≡ length o - 1 → o ≡ get_or o 0 0 ∷ take n (drop 1 o)
+head_and_tail : (o : List ℕ) (n : ℕ) → 1 ≤ length o → n ≡ length o - 1 → o ≡ get_or o 0 0 ∷ take n (drop 1 o)
 head_and_tail [] n some e = absurd (omega (arith, some))
 head_and_tail (c ∷ o) n some e = ap (λ r. c ∷ r) (sym (take_all n o (omega (arith, e))))
 

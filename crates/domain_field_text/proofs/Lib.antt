@@ -3,5 +3,3 @@ pub mod Cutting
 pub mod Blocks
 pub mod Params
 pub mod Digits
-pub mod Sizes
-pub mod Holding

@@ -1,5 +1,5 @@
 //! Character strings as text (RFC 1035, 5.1).
-ghost use Rattle.std.specs.Prelude.{◌≡◌, ◌≤◌, ◌∷◌, [], Some, length, MatchOption};
+ghost use Rattle.std.specs.Prelude.{◌≡◌, ◌<◌, ◌≤◌, ◌∷◌, [], Some, length, MatchOption};
 ghost use Rattle.domain_strings.specs.Quoted.{quoted_strings};
 ghost use Rattle.domain_txt.specs.Strings.{strings_in};
 

@@ -13,4 +13,4 @@ pub returns-clause-writes : goal.returns-clause-writes
 returns-clause-writes g c plain ok =
     let m = c.group.invariant plain in
     let few = c.in_default.len_below in
-    groups_end g.W.Write.write_str_gives _ _ _ _ c.group.rest.now _ m (omega (arith, few)) (c.ascii_text-2.ensures ∙ c.last_group.ensures.digits) (c.write_str-2.ensures.writes m.wrote.plain ok)
+    groups_end g.W.Write.write_str_gives _ _ _ _ c.group.rest.now _ m (omega (arith, few)) (c.ascii_text-2.ensures ∙ c.last_group-n.ensures.digits) (c.write_str-2.ensures.writes m.wrote.plain ok)
