@@ -47,13 +47,13 @@ Decides all ks xs = (b : Bool) × (is_some all ≡ is_some (parts_text b ks xs))
 
 pub decides_more : (all : Option (List ℕ)) (ks rest : List FieldKind) (k : FieldKind) (xs others : List Part) (x : Part) → Decides all ks xs → ks ≡ k ∷ rest → xs ≡ x ∷ others
     → (t : Bool) → IsTold k x t → t ≡ true → Decides all rest others
-decides_more all ks rest k xs others x (b, still) kinds parts t told yes =
-    (false, still ∙ (ap is_some (one_taken b ks rest k xs others x kinds parts) ∙ has_both (part_text b k x) (parts_text false rest others) (told b ∙ yes)))
+decides_more all ks rest k xs others x (b, still) kinds parts t told has =
+    (false, still ∙ (ap is_some (one_taken b ks rest k xs others x kinds parts) ∙ has_both (part_text b k x) (parts_text false rest others) (told b ∙ has)))
 
 pub decides_not : (all : Option (List ℕ)) (ks rest : List FieldKind) (k : FieldKind) (xs others : List Part) (x : Part) → Decides all ks xs → ks ≡ k ∷ rest → xs ≡ x ∷ others
     → (t : Bool) → IsTold k x t → t ≡ false → false ≡ is_some all
-decides_not all ks rest k xs others x (b, still) kinds parts t told no =
-    sym (still ∙ (ap is_some (one_taken b ks rest k xs others x kinds parts) ∙ lacks_first (part_text b k x) (parts_text false rest others) (told b ∙ no)))
+decides_not all ks rest k xs others x (b, still) kinds parts t told lacks =
+    sym (still ∙ (ap is_some (one_taken b ks rest k xs others x kinds parts) ∙ lacks_first (part_text b k x) (parts_text false rest others) (told b ∙ lacks)))
 
 pub decides_all : (all : Option (List ℕ)) (ks : List FieldKind) (xs : List Part) → Decides all ks xs → ks ≡ [] → true ≡ is_some all
 decides_all all ks xs (b, still) none = sym (still ∙ ap is_some (none_taken b ks xs none))

@@ -1,5 +1,5 @@
 //! Record data as text: its fields by the table of types (RFC 1035, 5.1), or its octets (RFC 3597, 5).
-ghost use Rattle.std.specs.Prelude.{◌≡◌, Some, is_some};
+ghost use Rattle.std.specs.Prelude.{◌≡◌, true, Some, is_some};
 ghost use Rattle.domain_any_rdata.specs.Parts.{part_of, rdata_parts};
 ghost use Rattle.domain_any_rdata.specs.AllData.{data_of};
 ghost use Rattle.domain_any_rdata.specs.Texts.{part_text, IsTold, parts_text, text_or_nothing, rdata_text};
