@@ -31,7 +31,7 @@ both : (t b : Bool) → cond t b false ≡ true → (t ≡ true) × (b ≡ true)
 both true b e = (refl, e)
 both false b e = absurd (false≢true e)
 
--- Labels in so many octets are those of a name before its end.
+-- Labels that fit into `room` octets are the labels of a name before its end.
 labels_are : (room : ℕ) (ls : List (List ℕ)) → are_labels_in room ls ≡ true → IsRelative ls × (length (wire ls) ≤ room)
 labels_are room [] h = (tt, omega arith)
 labels_are room ([] ∷ ls) h = absurd (false≢true h)
@@ -54,8 +54,8 @@ with_end_is ls end r d h =
           let w : wire (ls ++ rs) ≡ wire ls ++ end = wire_append ls rs ∙ ap (λ (x : List ℕ). wire ls ++ x) d.0 in
           let size : length end ≤ 255 = subst (λ (x : List ℕ). length x ≤ 255) d.0 d.1.1 in
           let short : length (wire ls ++ end) ≤ 255 = omega (arith, it.1, size, length-append (wire ls) end) in
-          let name : IsAbsoluteName (ls ++ rs) =
-              (relative_then_absolute ls rs it.0 d.1.0, subst (λ (x : List ℕ). length x ≤ 255) (sym w) short) in
+          let len : length (wire (ls ++ rs)) ≤ 255 = subst (λ (x : List ℕ). length x ≤ 255) (sym w) short in
+          let name : IsAbsoluteName (ls ++ rs) = (relative_then_absolute ls rs it.0 d.1.0, len) in
           subst (λ (x : List ℕ). IsAbsoluteWire x) (w ∙ same_some (wire ls ++ end) r a) (wire_absolute (ls ++ rs) name)
       | inr (none, a) ↦ absurd (not_both r a)
     ]

@@ -45,8 +45,8 @@ pub fn names_law()
         → ReadsEntry s text said rest new → HasNames s → SaysNames said × HasNames new }
 {}
 
-/// The call does nothing: its contract is the law. The lines of records are read as these records, and as nothing else,
-/// whatever entries came before: so a zone that is written is read as the same zone.
+/// The call does nothing: its contract is the law. The lines of records are read as these records, and as nothing
+/// else, whatever entries came before: so a zone that is written is read as the same zone.
 pub fn written_law()
     ensures { (rs : List Written) → AllByRecursion IsRecord rs → (s : Setting)
         → ReadsRecords s (record_lines rs) rs }
