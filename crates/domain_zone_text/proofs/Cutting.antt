@@ -1,5 +1,5 @@
 -- A line of words is the octets of an entry.
-use Rattle.std.proofs.Common.{◌≡◌, ◌∙◌, ◌⊎◌, ℕ, Bool, true, false, ◌==◌, ◌||◌, List, [], ◌∷◌, ◌++◌, cond, length, Result, Ok, Err, refl, sym, ap, subst, ⊎_elim, append_assoc, append-nil}
+use Rattle.std.proofs.Common.{◌≡◌, ◌∙◌, ℕ, Bool, true, false, ◌==◌, ◌||◌, List, [], ◌∷◌, ◌++◌, cond, length, Result, Ok, Err, refl, sym, ap, subst, ⊎_elim, append_assoc, append-nil}
 use Rattle.std.proofs.lemmas.Bool.{cond-false, eqb-true, ne_eqb, or_parts, true≢false}
 use Rattle.domain_rdata_text.specs.declared.error.Fault.{Fault}
 use Rattle.domain_rdata_text.specs.declared.error.Reason.TheVariants.{OpenQuote, LoneBackslash, Parenthesis}

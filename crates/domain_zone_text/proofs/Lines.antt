@@ -32,7 +32,6 @@ use Rattle.domain_zone_text.specs.Meanings.{Setting, RecordFront, with_defaults,
 use Rattle.domain_zone_text.specs.Meanings.Said.{record_front}
 use Rattle.domain_zone_text.specs.Mnemonics.{class_named}
 use Rattle.domain_zone_text.specs.Reading.{IsFrontData, is_indented, ReadsEntry}
-use Rattle.domain_zone_text.specs.Ttls.{ttl}
 use Rattle.domain_zone_text.proofs.Cutting.{line_cut}
 use Rattle.domain_zone_text.proofs.Named.{class_back, class_word, ttl_back, type_back}
 
