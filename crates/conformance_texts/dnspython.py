@@ -676,7 +676,7 @@ ONE_SIDED = (
      lambda it: it.is_of_digits() and re.search(rb'["\\]', it.word)),
     ("a number has no sign", "RFC 1035, 5.1",
      lambda it: it.reason == it.due == "Number" and it.word[:1] in (b"+", b"-")),
-    ("a number in data has no unit", "RFC 1035, 3.3.13; RFC 4034, 3.2",
+    ("a TTL with units has at most 2^31 - 1 seconds", "RFC 2181, 8",
      lambda it: it.reason == it.due == "Number" and re.fullmatch(rb"(?:[0-9]+[wdhmsWDHMS])+", it.word)),
     ("algorithms and certificates are numbers, not mnemonics", "RFC 4034, 2.2 and RFC 4398, 2.2 allow these",
      lambda it: it.reason == it.due == "Number" and it.word.decode("latin-1").upper() in (*ALGORITHMS, *CERTIFICATES)),

@@ -119,6 +119,11 @@ MOST_NAME, MOST_LABEL, MOST_POINTERS, MOST_STRING, MOST_BITMAP, MOST_DATA = 255,
 SPACE = re.compile(rb"(?:[ \t\r\n]|;[^\n]*)*")
 WORD = re.compile(rb'(?:\\.|"(?:\\.|[^\\"])*"|[^\\" \t\r\n;()])+', re.S)
 SYMBOL = re.compile(rb"\\([0-9]{3})|\\([^0-9])|([^\\])", re.S)
+# A TTL: seconds, or numbers with units, at most 2^31 - 1 seconds (RFC 2181, 8)
+TTL = re.compile(rb"[0-9]+|(?:[0-9]+[wdhms])+", re.I)
+TTL_PART = re.compile(rb"([0-9]+)([wdhms]?)", re.I)
+SECONDS = {b"w": 604800, b"d": 86400, b"h": 3600, b"m": 60, b"s": 1}
+MOST_TTL = 2**31 - 1
 # A quote and a dot without a backslash, as `symbols` returns them
 QUOTE, DOT = (ord('"'), False), (ord("."), False)
 GENERIC = rb"\#"
@@ -210,6 +215,26 @@ def number_octets(word, size):
     """Returns a number in `size` octets, the high one first (RFC 1035, 2.3.2)."""
     number = number_in(word, 256 ** size)
     return None if number is None else number.to_bytes(size, "big")
+
+
+def whole(digits):
+    """The number that decimal digits are, or 10 ** 11 where it has more than 11 digits."""
+    digits = digits.lstrip(b"0") or b"0"
+    return int(digits) if len(digits) <= 11 else 10**11
+
+
+def ttl_of(word):
+    """The seconds that a word states, or None: digits, or numbers each with a unit. RFC 2181, 8 has the limit."""
+    if not TTL.fullmatch(word):
+        return None
+    seconds = sum(whole(digits) * SECONDS[unit.lower() or b"s"] for digits, unit in TTL_PART.findall(word))
+    return seconds if seconds <= MOST_TTL else None
+
+
+def ttl_octets(word):
+    """Returns the seconds of a TTL in data: a number of 32 bits, or numbers with units (as NSD and dnspython)."""
+    seconds = ttl_of(word)
+    return number_octets(word, 4) if seconds is None else seconds.to_bytes(4, "big")
 
 
 def time_octets(word):
@@ -349,7 +374,7 @@ WORD_FORMS = {
     "Number8": (lambda word: number_octets(word, 1), "Number"),
     "Number16": (lambda word: number_octets(word, 2), "Number"),
     "Number32": (lambda word: number_octets(word, 4), "Number"),
-    "Ttl": (lambda word: number_octets(word, 4), "Number"),
+    "Ttl": (ttl_octets, "Number"),
     "Serial": (lambda word: number_octets(word, 4), "Number"),
     "Time": (time_octets, "Time"),
     "Rtype": (rtype_octets, "Rtype"),

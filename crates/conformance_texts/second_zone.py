@@ -15,8 +15,7 @@ import second
 
 IN = 1
 CLASSES = {b"IN": 1, b"CH": 3, b"HS": 4, b"NONE": 254, b"ANY": 255, b"*": 255}  # the registry of RFC 6895, 3.2
-MOST_LABEL, MOST_NAME, MOST_TTL = 63, 255, 2**31 - 1  # RFC 1035, 2.3.4; RFC 2181, 8
-SECONDS = {b"w": 604800, b"d": 86400, b"h": 3600, b"m": 60, b"s": 1}
+MOST_LABEL, MOST_NAME = 63, 255  # RFC 1035, 2.3.4
 OPENING, CLOSING, LINE_END, BACKSLASH = b"(", b")", b"\n", b"\\"
 
 # A part of a text that is read as a whole: an octet with its backslash, a string between quotes, a comment without the
@@ -24,8 +23,6 @@ OPENING, CLOSING, LINE_END, BACKSLASH = b"(", b")", b"\n", b"\\"
 PART = re.compile(rb'\\.|"(?:\\.|[^\\"])*"|;[^\n]*|[^\\"]', re.S)
 # A word, which is the group, or what is between two words: white space, or a comment
 TOKEN = re.compile(rb'[ \t\r\n]+|;[^\n]*|((?:\\.|"(?:\\.|[^\\"])*"|[^ \t\r\n;\\"])+)', re.S)
-TTL = re.compile(rb"[0-9]+|(?:[0-9]+[wdhms])+", re.I)
-TTL_PART = re.compile(rb"([0-9]+)([wdhms]?)", re.I)
 CLASS = re.compile(rb"CLASS([0-9]+)")
 
 
@@ -72,26 +69,12 @@ class Context:
         return self.stated_ttl if self.default_ttl is None else self.default_ttl
 
 
-def whole(digits):
-    """The number that decimal digits are, or 10 ** 11 where it has more than 11 digits."""
-    digits = digits.lstrip(b"0") or b"0"
-    return int(digits) if len(digits) <= 11 else 10**11
-
-
-def ttl_of(word):
-    """The seconds that a word states, or None: digits, or numbers each with a unit. RFC 2181, 8 has the limit."""
-    if not TTL.fullmatch(word):
-        return None
-    seconds = sum(whole(digits) * SECONDS[unit.lower() or b"s"] for digits, unit in TTL_PART.findall(word))
-    return seconds if seconds <= MOST_TTL else None
-
-
 def class_of(word):
     """The class that a word is, or None: a mnemonic, or CLASS and a number of 16 bits (RFC 3597, 5)."""
     numbered = CLASS.fullmatch(word.upper())
     if not numbered:
         return CLASSES.get(word.upper())
-    number = whole(numbered[1])
+    number = second.whole(numbered[1])
     return number if number <= 0xFFFF else None
 
 
@@ -138,7 +121,7 @@ def read_name(place, context):
 def read_ttl(place):
     """The TTL that the word at a place is, or its fault."""
     at, word = place
-    ttl = ttl_of(word)
+    ttl = second.ttl_of(word)
     if ttl is None:
         raise Refused(at, "Ttl")
     return ttl
@@ -262,7 +245,7 @@ def answer(line):
     word, *fields = line.split(b" ", 2 if line.startswith(b"zone ") else 1)
     try:
         if word == b"ttl" and len(fields) == 1:
-            ttl = ttl_of(second.text_of(fields[0]))
+            ttl = second.ttl_of(second.text_of(fields[0]))
             return "none" if ttl is None else str(ttl)
         if word == b"zone" and len(fields) == 2:
             origin, text = second.octets_of(fields[0]), second.text_of(fields[1])

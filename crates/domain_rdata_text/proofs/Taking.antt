@@ -21,8 +21,9 @@ use Rattle.domain_rdata_text.specs.Rtypes.{type_text, read_type, type_or_fault, 
 use Rattle.domain_rdata_text.specs.Strings.{string_text, only_short, read_string, read_quoted}
 use Rattle.domain_rdata_text.specs.Texts.{val_words, has_text, takes_all, read_tag, so_far, with_octets, with_more, with_bitmaps, one, all, string_or_fault, strings_words, take_field}
 use Rattle.domain_rdata_text.specs.Times.{read_time}
+use Rattle.domain_rdata_text.specs.Ttls.{or_ttl, read_ttl}
 use Rattle.domain_rdata_text.specs.Values.{Val, form_of_val, counted, val_octets, is_tag}
-use Rattle.domain_rdata_text.specs.Values.Val.{number8, number16, number32, time, rtype, ipv4, ipv6, name, string, optional_string, strings, tag, quoted, base16, base64, counted16, counted32, types, optional_types, generic}
+use Rattle.domain_rdata_text.specs.Values.Val.{number8, number16, number32, ttl, time, rtype, ipv4, ipv6, name, string, optional_string, strings, tag, quoted, base16, base64, counted16, counted32, types, optional_types, generic}
 use Rattle.domain_rdata_text.specs.Words.{WordAt, word}
 use Rattle.domain_rdata_text.proofs.Colons.{ipv6_back, bare_ipv6, ipv6_some}
 use Rattle.domain_rdata_text.proofs.Digits.{hex_back, bare_hex}
@@ -90,6 +91,7 @@ pub are_words : (v : Val) → IsVal v → AllByRecursion IsWord (val_words v)
 are_words (number8 n) h = (number_word n (omega (arith, h)), tt)
 are_words (number16 n) h = (number_word n (omega (arith, h)), tt)
 are_words (number32 n) h = (number_word n (omega (arith, h)), tt)
+are_words (ttl n) h = (number_word n (omega (arith, h)), tt)
 are_words (time n) h = (number_word n (omega (arith, h)), tt)
 are_words (rtype n) h = ((bare_type n h, type_some n), tt)
 are_words (ipv4 os) h = ((bare_ipv4 os h.1, ipv4_some os h.0 h.1), tt)
@@ -158,6 +160,10 @@ hex_all_back n (c ∷ cs) b = hex_taken n c cs b []
 no_others : (us vs : List (List ℕ)) → vs ≡ [] → us ++ vs ≡ us
 no_others us vs none = ap (λ (x : List (List ℕ)). us ++ x) none ∙ append-nil us
 
+-- digits alone are that number
+ttl_back : (n : ℕ) → n < 4294967296 → read_ttl (decimal n) ≡ Some n
+ttl_back n h = ap (λ (x : Option ℕ). or_ttl x (decimal n)) (number_back 4294967296 n h (omega (arith, h)))
+
 pub taken_back : (origin : Option (List ℕ)) (n len : ℕ) (v : Val) (us : List (List ℕ)) → IsVal v → has_text v ≡ true → (takes_all v ≡ true → us ≡ []) → (os : List ℕ)
     → take_field origin len (form_of_val v) os (placed n (val_words v ++ us)) ≡ Ok (so_far (os ++ val_octets v) (placed n us))
 taken_back origin n len (number8 x) us h t l os =
@@ -166,6 +172,8 @@ taken_back origin n len (number16 x) us h t l os =
     one_back number16 reasons.Number os (word (ends_before n us - length (decimal x)) (decimal x)) (placed n us) (read_number 65536 (decimal x)) x (number_back 65536 x h (omega (arith, h)))
 taken_back origin n len (number32 x) us h t l os =
     one_back number32 reasons.Number os (word (ends_before n us - length (decimal x)) (decimal x)) (placed n us) (read_number 4294967296 (decimal x)) x (number_back 4294967296 x h (omega (arith, h)))
+taken_back origin n len (ttl x) us h t l os =
+    one_back ttl reasons.Number os (word (ends_before n us - length (decimal x)) (decimal x)) (placed n us) (read_ttl (decimal x)) x (ttl_back x h)
 taken_back origin n len (time x) us h t l os =
     one_back time reasons.Time os (word (ends_before n us - length (decimal x)) (decimal x)) (placed n us) (read_time (decimal x)) x (time_back x h)
 taken_back origin n len (rtype x) us h t l os =

@@ -23,8 +23,9 @@ use Rattle.domain_rdata_text.specs.Outcome.{fault}
 use Rattle.domain_rdata_text.specs.Rtypes.{type_text, read_type, types_words}
 use Rattle.domain_rdata_text.specs.Strings.{string_text, read_string, read_quoted}
 use Rattle.domain_rdata_text.specs.Times.{read_time}
+use Rattle.domain_rdata_text.specs.Ttls.{read_ttl}
 use Rattle.domain_rdata_text.specs.Values.{Val, val_octets, vals_octets, is_tag, ValuesAt}
-use Rattle.domain_rdata_text.specs.Values.Val.{number8, number16, number32, time, rtype, ipv4, ipv6, name, string, optional_string, strings, tag, quoted, base16, base64, counted16, counted32, types, optional_types, generic}
+use Rattle.domain_rdata_text.specs.Values.Val.{number8, number16, number32, ttl, time, rtype, ipv4, ipv6, name, string, optional_string, strings, tag, quoted, base16, base64, counted16, counted32, types, optional_types, generic}
 use Rattle.domain_rdata_text.specs.Words.{WordAt, split, joined}
 
 -- the words of a string, where there is one
@@ -37,6 +38,7 @@ abbrev pub val_words : Val → List (List ℕ)
 val_words (number8 n) = decimal n ∷ []
 val_words (number16 n) = decimal n ∷ []
 val_words (number32 n) = decimal n ∷ []
+val_words (ttl n) = decimal n ∷ []
 val_words (time n) = decimal n ∷ []
 val_words (rtype n) = type_text n ∷ []
 val_words (ipv4 os) = ipv4_text os ∷ []
@@ -69,6 +71,7 @@ abbrev pub has_text : Val → Bool
 has_text (number8 n) = true
 has_text (number16 n) = true
 has_text (number32 n) = true
+has_text (ttl n) = true
 has_text (time n) = true
 has_text (rtype n) = true
 has_text (ipv4 os) = true
@@ -92,6 +95,7 @@ abbrev pub takes_all : Val → Bool
 takes_all (number8 n) = false
 takes_all (number16 n) = false
 takes_all (number32 n) = false
+takes_all (ttl n) = false
 takes_all (time n) = false
 takes_all (rtype n) = false
 takes_all (ipv4 os) = false
@@ -179,6 +183,7 @@ abbrev pub take_words : Option (List ℕ) → TextForm → List ℕ → WordAt �
 take_words o forms.Number8 os w ws = one reasons.Number w ws (with_octets number8 os (read_number 256 w.octets))
 take_words o forms.Number16 os w ws = one reasons.Number w ws (with_octets number16 os (read_number 65536 w.octets))
 take_words o forms.Number32 os w ws = one reasons.Number w ws (with_octets number32 os (read_number 4294967296 w.octets))
+take_words o forms.Ttl os w ws = one reasons.Number w ws (with_octets ttl os (read_ttl w.octets))
 take_words o forms.Time os w ws = one reasons.Time w ws (with_octets time os (read_time w.octets))
 take_words o forms.Rtype os w ws = one reasons.Rtype w ws (with_octets rtype os (read_type w.octets))
 take_words o forms.Ipv4 os w ws = one reasons.Ipv4 w ws (with_octets ipv4 os (read_ipv4 w.octets))

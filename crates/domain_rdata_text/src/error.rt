@@ -15,7 +15,8 @@ pub enum Reason {
     MissingWord,
     /// A word follows the last field.
     ExtraWord,
-    /// The word isn't a number in decimal digits, or one of too many bits.
+    /// The word isn't a number in decimal digits, or one of too many bits. In a TTL, it isn't numbers with units
+    /// either.
     Number,
     /// The word isn't the mnemonic of a type, or `TYPE` and a number of 16 bits (RFC 3597, 5).
     Rtype,

@@ -1,5 +1,5 @@
 //! Record data that a text says (RFC 1035, 5.1; RFC 3597, 5).
-ghost use Rattle.std.specs.Prelude.{◌≡◌, ◌≤◌, ◌++◌, ◌∷◌, [], length, Ok, Err, Some, None, IfOk, OnOk, IfErr};
+ghost use Rattle.std.specs.Prelude.{◌≡◌, ◌<◌, ◌≤◌, ◌++◌, ◌∷◌, [], length, Ok, Err, Some, None, IfOk, OnOk, IfErr};
 ghost use Rattle.domain_descriptor.specs.Table.{known_fields};
 ghost use Rattle.domain_rdata_text.specs.Forms.{text_form, may_be_absent};
 ghost use Rattle.domain_rdata_text.specs.Outcome.{fault, IfFault, IfRefused, RefusesWith, AppendedTo};
@@ -13,17 +13,18 @@ ghost use Rattle.domain_rdata_text.specs.Numbers.{read_number};
 ghost use Rattle.domain_rdata_text.specs.Rtypes.{read_type, types_words};
 ghost use Rattle.domain_rdata_text.specs.Strings.{read_string, read_quoted};
 ghost use Rattle.domain_rdata_text.specs.Times.{read_time};
+ghost use Rattle.domain_rdata_text.specs.Ttls.{read_ttl};
 ghost use Rattle.domain_rdata_text.specs.Texts.{read_tag, with_octets, with_bitmaps, strings_words, take_words, take_field};
 ghost use Rattle.domain_rdata_text.specs.Names.{origin_octets};
 ghost use Rattle.domain_rdata_text.specs.Texts.{so_far, read_fields, fields_octets, text_octets, text_octets_with};
 ghost use Rattle.domain_rdata_text.specs.Texts.{starts_mark, mark_offset, IsGenericText, IsPlain, IsNotPlain};
 ghost use Rattle.domain_rdata_text.specs.Texts.{IsGenericFault, IsReadFault, IsReadFaultWith};
 ghost use Rattle.domain_rdata_text.specs.declared.error.Reason.TheVariants.{NotData};
-ghost use Rattle.domain_rdata_text.specs.Values.Val.{number8 as held_number8, number16 as held_number16, number32 as held_number32};
+ghost use Rattle.domain_rdata_text.specs.Values.Val.{number8 as held_number8, number16 as held_number16, number32 as held_number32, ttl as held_ttl};
 ghost use Rattle.domain_rdata_text.specs.Values.Val.{ipv4 as held_ipv4, ipv6 as held_ipv6, string as held_string, tag as held_tag, quoted as held_quoted};
 ghost use Rattle.domain_rdata_text.specs.Values.Val.{base64 as held_base64, counted16 as held_counted16, counted32 as held_counted32};
 ghost use Rattle.domain_rdata_text.specs.Values.Val.{rtype as held_rtype, time as held_time};
-ghost use Rattle.domain_rdata_text.specs.Values.{counted};
+ghost use Rattle.domain_rdata_text.specs.Values.{counted, val_octets};
 ghost use Rattle.domain_rdata_text.specs.Words.{word_of, words_of, lists};
 
 use crate::address::ipv4_of;
@@ -40,6 +41,7 @@ use crate::push::{push, push_all};
 use crate::rtype::{type_of, types_of_words};
 use crate::string::{quoted_of, string_of};
 use crate::time::time_of;
+use crate::ttl::seconds_of_word;
 use crate::value::{are_of_tag, plain_data};
 use crate::words::{Word, split_words};
 use domain_descriptor::{FieldKind, Rdata, known_fields};
@@ -82,6 +84,22 @@ fn push_rtype(refusal: Fault, word: &[u8], made: &mut Vec<u8>) -> Result<(), Rea
     Ok(())
 }
 
+/// Appends a number in four octets, the high one first (RFC 1035, 2.3.2).
+fn push_four(number: u64, made: &mut Vec<u8>) -> Result<(), ReadError>
+    requires { number < 4294967296 }
+    ensures ok { OnOk result
+        (AppendedTo made.old.items (val_octets (held_number32 number)) made.new.items) }
+    ensures err { IfErr result (λ e. e ≡ ReadError.Memory) }
+{
+    let octets = [
+        (number / 16777216) as u8,
+        (number / 65536 % 256) as u8,
+        (number / 256 % 256) as u8,
+        (number % 256) as u8,
+    ];
+    push_all(&octets, made)
+}
+
 /// Appends the number of 32 bits that a word is. It is refused with the fault that is passed.
 fn push_number32(refusal: Fault, word: &[u8], made: &mut Vec<u8>) -> Result<(), ReadError>
     ensures ok { OnOk result
@@ -91,14 +109,18 @@ fn push_number32(refusal: Fault, word: &[u8], made: &mut Vec<u8>) -> Result<(), 
     ensures given { RefusesWith result refusal }
 {
     let number = number_of(4294967296, refusal, word)?;
-    let octets = [
-        (number / 16777216) as u8,
-        (number / 65536 % 256) as u8,
-        (number / 256 % 256) as u8,
-        (number % 256) as u8,
-    ];
-    push_all(&octets, made)?;
-    Ok(())
+    push_four(number, made)
+}
+
+/// Appends the seconds that a word is, in digits or with units. It is refused with the fault that is passed.
+fn push_ttl(refusal: Fault, word: &[u8], made: &mut Vec<u8>) -> Result<(), ReadError>
+    ensures ok { OnOk result
+        (with_octets held_ttl made.old.items (read_ttl word.now) ≡ Some made.new.items) }
+    ensures err { IfRefused result refusal (read_ttl word.now ≡ None) }
+    ensures given { RefusesWith result refusal }
+{
+    let seconds = seconds_of_word(refusal, word)?;
+    push_four(seconds, made)
 }
 
 /// Appends the point in time that a word is. It is refused with the fault that is passed.
@@ -109,14 +131,7 @@ fn push_time(refusal: Fault, word: &[u8], made: &mut Vec<u8>) -> Result<(), Read
     ensures given { RefusesWith result refusal }
 {
     let seconds = time_of(refusal, word)?;
-    let parts = [
-        (seconds / 16777216) as u8,
-        (seconds / 65536 % 256) as u8,
-        (seconds / 256 % 256) as u8,
-        (seconds % 256) as u8,
-    ];
-    push_all(&parts, made)?;
-    Ok(())
+    push_four(u64::from(seconds), made)
 }
 
 /// Appends the octets of the address that a word is. It is refused with the fault that is passed.
@@ -346,6 +361,10 @@ fn take_field<'w>(
         }
         TextForm::Number32 => {
             push_number32(refusal_of(word, Reason::Number), octets, made)?;
+            Ok(after)
+        }
+        TextForm::Ttl => {
+            push_ttl(refusal_of(word, Reason::Number), octets, made)?;
             Ok(after)
         }
         TextForm::Time => {

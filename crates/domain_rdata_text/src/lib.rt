@@ -23,6 +23,7 @@ mod string;
 mod symbols;
 mod time;
 pub mod to_text;
+mod ttl;
 pub mod value;
 pub mod words;
 
@@ -32,6 +33,8 @@ pub use from_text::{read, read_relative_to};
 pub use laws::{name_law, octets_law, plain_law, read_back_law, types_law};
 pub use name::name_relative_to;
 pub use place::{Place, place_of};
+pub use symbols::is_decimal;
 pub use to_text::show;
+pub use ttl::ttl_of;
 pub use value::{PlainData, Value, plain_data};
 pub use words::{Word, split_words};

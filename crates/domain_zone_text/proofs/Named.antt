@@ -17,7 +17,8 @@ use Rattle.domain_rdata_text.proofs.Types.{all_bare}
 use Rattle.domain_zone_text.specs.declared.ttl.TtlPart.{TtlPart}
 use Rattle.domain_zone_text.specs.declared.ttl.TtlPart.TheVariants.{Nothing, Digits}
 use Rattle.domain_zone_text.specs.Mnemonics.{row_number, number_from, number, named, class_named, rtype_named}
-use Rattle.domain_zone_text.specs.Ttls.{is_digit, below_limit, step, digits_read, sum, sum_read, unit, ttl_from, ttl}
+use Rattle.domain_rdata_text.specs.Symbols.{is_digit}
+use Rattle.domain_rdata_text.specs.Ttls.{below_limit, step, digits_read, sum, sum_read, unit, ttl_from, ttl}
 
 -- ---- digits
 is_one_digit : (d : ℕ) → d < 10 → is_digit (48 + d) ≡ true

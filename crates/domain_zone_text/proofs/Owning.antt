@@ -16,7 +16,7 @@ use Rattle.domain_zone_text.specs.Meanings.Said.{nothing, line, record_front}
 use Rattle.domain_zone_text.specs.Mnemonics.{is_word}
 use Rattle.domain_zone_text.specs.Outcome.{fault}
 use Rattle.domain_zone_text.specs.Reading.{entry_said, EntrySaid, HasNames, is_indented, line_after, LineHasNames, ReadsEntry, SaysNames, setting_after}
-use Rattle.domain_zone_text.specs.Ttls.{ttl}
+use Rattle.domain_rdata_text.specs.Ttls.{ttl}
 use Rattle.domain_zone_text.proofs.Splitting.{chosen}
 
 -- ---- results

@@ -8,7 +8,7 @@ use Rattle.domain_zone_text.specs.declared.error.EntryFault.{EntryFault}
 use Rattle.domain_zone_text.specs.declared.error.EntryReason.TheVariants as reasons
 use Rattle.domain_zone_text.specs.Mnemonics.{is_word}
 use Rattle.domain_zone_text.specs.Outcome.{fault}
-use Rattle.domain_zone_text.specs.Ttls.{ttl}
+use Rattle.domain_rdata_text.specs.Ttls.{ttl}
 
 -- a directive without where it is in memory: a name is its octets in wire format, and a file is its word
 pub data Line : Type 0 where

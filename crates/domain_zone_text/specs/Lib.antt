@@ -1,6 +1,5 @@
 pub mod Outcome
 pub mod Entries
-pub mod Ttls
 pub mod Mnemonics
 pub mod Heads
 pub mod Directives

@@ -14,7 +14,6 @@ mod name;
 mod push;
 pub mod reader;
 pub mod reading;
-pub mod ttl;
 
 pub use context::Context;
 pub use directive::Directive;
@@ -23,4 +22,3 @@ pub use error::{EntryError, EntryFault, EntryReason};
 pub use laws::{entry_law, lines_law, names_law, outcome_law, words_law, written_law};
 pub use reader::{ZoneReader, ZoneTextError};
 pub use reading::{Entry, EntryAndRest, Record, fault_place, read_entry};
-pub use ttl::ttl_of;

@@ -1,11 +1,9 @@
 -- TTLs (RFC 1035, 5.1): seconds, at most 2^31 - 1 (RFC 2181, 8), or numbers with units.
-use Rattle.std.specs.Prelude.{ℕ, ◌+◌, ◌*◌, ◌-◌, ◌<◌, Bool, List, [], ◌∷◌, Option, Some, None, ◌==◌, ◌||◌, ◌&&◌, nat_lt, nat_le, if◌then◌else◌}
-use Rattle.domain_zone_text.specs.declared.ttl.TtlPart.{TtlPart}
-use Rattle.domain_zone_text.specs.declared.ttl.TtlPart.TheVariants.{Nothing, Digits, Sum, SumAndDigits}
-
--- whether it is a decimal digit
-abbrev pub is_digit : ℕ → Bool
-is_digit c = nat_le 48 c && nat_le c 57
+use Rattle.std.specs.Prelude.{ℕ, ◌+◌, ◌*◌, ◌-◌, ◌<◌, Bool, List, [], ◌∷◌, Option, Some, None, ◌==◌, ◌||◌, nat_lt, if◌then◌else◌}
+use Rattle.domain_rdata_text.specs.Numbers.{read_number}
+use Rattle.domain_rdata_text.specs.Symbols.{is_digit}
+use Rattle.domain_rdata_text.specs.declared.ttl.TtlPart.{TtlPart}
+use Rattle.domain_rdata_text.specs.declared.ttl.TtlPart.TheVariants.{Nothing, Digits, Sum, SumAndDigits}
 
 -- the seconds of a unit, w, d, h, m or s in either case; 0 of another octet
 abbrev pub unit : ℕ → ℕ
@@ -64,6 +62,15 @@ ttl_from (Some p) (c ∷ cs) = ttl_from (step p c) cs
 -- the TTL that a word is, in seconds
 abbrev pub ttl : List ℕ → Option ℕ
 ttl word = ttl_from (Some Nothing) word
+
+-- a number, or else the TTL that a word is
+abbrev pub or_ttl : Option ℕ → List ℕ → Option ℕ
+or_ttl None word = ttl word
+or_ttl (Some n) word = Some n
+
+-- the seconds that a word of record data is: a number of 32 bits in digits, or a TTL with units
+abbrev pub read_ttl : List ℕ → Option ℕ
+read_ttl word = or_ttl (read_number 4294967296 word) word
 
 -- The numbers that were read are below 2^31.
 abbrev pub IsWithin : TtlPart → Type 0

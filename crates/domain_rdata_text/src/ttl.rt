@@ -1,6 +1,12 @@
 //! TTLs: seconds, or numbers with units (RFC 1035, 5.1; RFC 2181, 8).
-ghost use Rattle.std.specs.Prelude.{◌≡◌, ◌<◌, true, IfSome};
-ghost use Rattle.domain_zone_text.specs.Ttls.{is_digit, unit, sum, more_digits, step, ttl, IsWithin};
+ghost use Rattle.std.specs.Prelude.{◌≡◌, ◌<◌, true, Some, None, IfSome, IfOk, IfErr};
+ghost use Rattle.domain_rdata_text.specs.Outcome.{IfRefused, RefusesWith};
+ghost use Rattle.domain_rdata_text.specs.Symbols.{is_digit};
+ghost use Rattle.domain_rdata_text.specs.Ttls.{unit, sum, more_digits, step, ttl, read_ttl, IsWithin};
+
+use crate::error::{Fault, ReadError};
+use crate::number::number_of;
+use crate::symbols::is_decimal;
 
 /// What was read of a TTL.
 #[derive(Clone, Copy, Debug, PartialEq, Eq)]
@@ -13,13 +19,6 @@ pub enum TtlPart {
     Sum(u32),
     /// The same, and digits after them.
     SumAndDigits(u32, u32),
-}
-
-/// Returns whether the octet is a decimal digit.
-pub(crate) fn is_decimal(octet: u8) -> bool
-    ensures { result ≡ is_digit octet }
-{
-    b'0' <= octet && octet <= b'9'
 }
 
 /// Returns the seconds of a unit: weeks, days, hours, minutes or seconds, in either case. 0 of any other octet.
@@ -117,5 +116,23 @@ pub fn ttl_of(word: &[u8]) -> Option<u32>
         TtlPart::Digits(seconds) => Some(seconds),
         TtlPart::Sum(seconds) => Some(seconds),
         _ => None,
+    }
+}
+
+/// The seconds that a word of record data is: a number of 32 bits in digits, or a TTL with units. It is refused with
+/// the fault that is passed.
+pub(crate) fn seconds_of_word(refusal: Fault, word: &[u8]) -> Result<u64, ReadError>
+    ensures ok { IfOk result (λ n. read_ttl word.now ≡ Some n) }
+    ensures below { IfOk result (λ n. n < 4294967296) }
+    ensures err { IfRefused result refusal (read_ttl word.now ≡ None) }
+    ensures given { RefusesWith result refusal }
+{
+    match number_of(4294967296, refusal, word) {
+        Ok(number) => Ok(number),
+        Err(ReadError::Memory) => Err(ReadError::Memory),
+        Err(ReadError::Refused(_)) => match ttl_of(word) {
+            Some(seconds) => Ok(u64::from(seconds)),
+            None => Err(ReadError::Refused(refusal)),
+        },
     }
 }
