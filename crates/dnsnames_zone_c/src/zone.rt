@@ -124,7 +124,10 @@ fn server_with(stream: u32, payload_size: u16) -> Server
     }
 }
 
-/// Gives the message that answers a query from a zone.
+/// The octets that a message has at most (RFC 1035, 4.2.2).
+const LONGEST_MESSAGE: usize = 65535;
+
+/// Gives the message that answers a query from a zone. It has all its room before it is made.
 fn answer(
     alloc: Global,
     zone: &Zone,
@@ -136,8 +139,10 @@ fn answer(
     ensures { GivesResponse zone.now server query.now result buffer.old buffer.new length.old
         length.new }
 {
-    let target = CompressComposer::new(Vec::new(alloc));
-    match respond_to(alloc, zone, query, server, target) {
+    let Ok(room) = Vec::with_capacity(alloc, LONGEST_MESSAGE) else {
+        return 42;
+    };
+    match respond_to(alloc, zone, query, server, CompressComposer::new(room)) {
         Ok(None) => 41,
         Ok(Some(made)) => give(made.as_slice(), buffer, length),
         Err(_) => 42,
