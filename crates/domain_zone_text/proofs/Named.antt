@@ -15,7 +15,7 @@ use Rattle.domain_rdata_text.proofs.Strung.{none_some, same_some, cond_some}
 use Rattle.domain_rdata_text.proofs.Tables.{is_bare}
 use Rattle.domain_rdata_text.proofs.Types.{all_bare}
 use Rattle.domain_rdata_text.specs.declared.ttl.TtlPart.{TtlPart}
-use Rattle.domain_zone_text.specs.declared.ttl.TtlPart.TheVariants.{Nothing, Digits}
+use Rattle.domain_rdata_text.specs.declared.ttl.TtlPart.TheVariants.{Nothing, Digits}
 use Rattle.domain_zone_text.specs.Mnemonics.{row_number, number_from, number, named, class_named, rtype_named}
 use Rattle.domain_rdata_text.specs.Symbols.{is_digit}
 use Rattle.domain_rdata_text.specs.Ttls.{below_limit, step, digits_read, sum, sum_read, unit, ttl_from, ttl}
