@@ -80,7 +80,8 @@ uint32_t dnsnames_zone_load(dnsnames_zone *zone, const uint8_t *text, size_t tex
 /* Gives the message that answers a query: over UDP, or over TCP, from a server that takes `payload_size` octets in a
  * datagram. *length becomes its size, at most 65,535 octets.
  *
- * NONE, NO_RESPONSE, NO_MEMORY: nothing is changed. NO_ROOM: the buffer is unchanged. */
+ * NONE, NO_RESPONSE, NO_MEMORY: nothing is changed. NO_ROOM: the buffer is unchanged. Where memory for the message itself
+ * is refused, records are left out of it, and it has TC. */
 uint32_t dnsnames_zone_answer(dnsnames_zone *zone, uint32_t transport, uint16_t payload_size, const uint8_t *query,
                               size_t query_len, uint8_t *buffer, size_t capacity, size_t *length);
 

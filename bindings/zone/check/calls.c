@@ -74,7 +74,7 @@ static void check_wildcards(void)
         uint8_t query[QUERY_MOST], octets[512];
         size_t query_len = query_of(query, CASES[i].name, CASES[i].type), len = 0;
         uint32_t status = dnsnames_zone_answer(&zone, 0, 1232, query, query_len, octets, sizeof octets, &len);
-        test(status == DNSNAMES_ZONE_OK && len > query_len && octets[0] == 0x12 && octets[1] == 0x34 &&
+        test(status == DNSNAMES_ZONE_OK && len >= query_len && octets[0] == 0x12 && octets[1] == 0x34 &&
                  octets[2] == (CASES[i].aa ? 0x85 : 0x81) && octets[3] == CASES[i].code && octets[5] == 1 &&
                  octets[7] == CASES[i].answers && octets[9] == CASES[i].authority,
              __FILE__, __LINE__, CASES[i].name);
@@ -85,6 +85,8 @@ static void check_wildcards(void)
 /* The address of www.example., and its response (RFC 1034, 4.3.2): owners are compressed. */
 static const char SMALL[] = "$TTL 3600\n@ SOA ns.example. admin.example. 1 7200 900 1209600 86400\n"
                             "@ NS ns.example.\nns A 192.0.2.1\nwww A 192.0.2.2\n";
+
+static const char CHAOS[] = "$TTL 3600\n@ SOA ns.example. admin.example. 1 7200 900 1209600 86400\n@ NS ns.example.\n";
 
 static const uint8_t RESPONSE[] = "\x12\x34\x85\x00\x00\x01\x00\x01\x00\x00\x00\x00"
                                   "\x03www\x07"
@@ -157,12 +159,12 @@ static const struct {
     uint32_t status;
     size_t line, column, index;
 } REFUSALS[] = {
-    {"$TTL 1h\n@ SOA a. b. 1 2 3 4 x\n", 85, 2, 25, 0},
+    {"$TTL 1h\n@ SOA a. b. 1 2 3 4 x\n", 85, 2, 21, 0},
     {"$TTL 1h\n@ SOA a. b. 1 2 3 4 5\n@ A (192.0.2.1\n", 62, 3, 5, 0},
     {"$TTL 1h\n$INCLUDE other\n", 44, 2, 1, 0},
-    {"$TTL 1h\n@ SOA a. b. 1 2 3 4 5\n@ NS a.\n\n@ CH A 192.0.2.1\n$NONE", 45, 5, 1, 0},
+    {"$TTL 1h\n@ SOA a. b. 1 2 3 4 5\n@ NS a.\n\n@ CH TXT x\n$NONE", 45, 5, 1, 0},
     {"$TTL 1h\n@ SOA a. b. 1 2 3 4 5\na.org. A 192.0.2.1\n", 46, 3, 1, 0},
-    {"$TTL 1h\n@ SOA a. b. 1 2 3 4 5\n@ TYPE250 \\# 0\n", 47, 3, 1, 0},
+    {"$TTL 1h\n@ SOA a. b. 1 2 3 4 5\n@ TYPE251 \\# 0\n", 47, 3, 1, 0},
     {"", 51, 0, 0, 0},
     {"$TTL 1h\na A 192.0.2.1\n", 51, 0, 0, 0},
     {"$TTL 1h\n@ SOA a. b. 1 2 3 4 5\n", 52, 0, 0, 0},
@@ -200,7 +202,7 @@ static void check_refusals(void)
     CHECK(dnsnames_zone_answer(&zone, 0, 1232, query, 12, octets, 1, NULL) == DNSNAMES_ZONE_NULL);
     /* A zone in the place of another, and one of another class. */
     CHECK(load(&zone, TEXT, &place) == DNSNAMES_ZONE_OK);
-    CHECK(dnsnames_zone_load(&zone, (const uint8_t *)SMALL, strlen(SMALL), APEX, sizeof APEX, 3, &place) == 0);
+    CHECK(dnsnames_zone_load(&zone, (const uint8_t *)CHAOS, strlen(CHAOS), APEX, sizeof APEX, 3, &place) == 0);
     CHECK(dnsnames_zone_answer(&zone, 0, 1232, query, query_len, octets, sizeof octets, &len) == DNSNAMES_ZONE_OK);
     CHECK(octets[3] == 5);
     dnsnames_zone_free(&zone);

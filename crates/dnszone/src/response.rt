@@ -149,11 +149,12 @@ pub fn put_response(
     rtype: Rtype,
     out: &mut Vec<u8>,
 ) -> Result<(), AllocError> {
-    let first = respond(zone, name, rtype.to_int());
+    let number = rtype.to_int();
+    let first = respond(zone, name, number);
     let is_authoritative = first.is_authoritative();
-    let names = follow(alloc, zone, name, rtype.to_int(), first.outcome())?;
+    let names = follow(alloc, zone, name, number, first.outcome())?;
     let views = names_of(alloc, names.as_slice())?;
-    let response = respond_along(alloc, zone, rtype.to_int(), first, views.as_slice())?;
+    let response = respond_along(alloc, zone, number, first, views.as_slice())?;
     put_header(alloc, response.rcode(), is_authoritative, out)?;
     put_question(alloc, zone.class(), *name, rtype, out)?;
     put_sections(alloc, zone.class(), &response, out)
