@@ -1,5 +1,5 @@
--- The text of a field of record data that is no name, by what the field is (RFC 1035, 5.1). The words of a field are as
--- the types of their RFCs have them in `domain_strings`, `domain_dnssec` and `domain_svcb`.
+-- The text of a field of record data that is no name, by what the field is (RFC 1035, 5.1). The words of a field are
+-- as the types of their RFCs have them in `domain_strings`, `domain_dnssec` and `domain_svcb`.
 use Rattle.std.specs.Prelude.{ℕ, zero, suc, ◌+◌, ◌*◌, ◌==◌, nat_le, Bool, true, false, if◌then◌else◌, List, [], ◌∷◌, ◌++◌, length, take, drop, slice_index, Option, Some, None, option_map}
 use Rattle.std.specs.Char.{is_ascii_alphanumeric}
 use Rattle.std.specs.Fmt.{decimal}
@@ -152,9 +152,9 @@ params_in o = if nat_le (length o) 65535 then params_from (suc (length o)) 0 o e
 
 -- ---- a field
 
--- The text of a field with these octets. Its first word is the first of data, or has a space before it, as each further
--- word has. There is no text of octets that aren't such a field, of a name, which isn't its octets alone, and of a kind
--- without a form of its own: such data has the form of RFC 3597, 5.
+-- The text of a field with these octets. Its first word is the first of data, or has a space before it, as each
+-- further word has. There is no text of octets that aren't such a field, of a name, which isn't its octets alone, and
+-- of a kind without a form of its own: such data has the form of RFC 3597, 5.
 abbrev pub field_octets_text : Bool → FieldKind → List ℕ → Option (List ℕ)
 field_octets_text first kinds.Number8 os = led first (option_map decimal (number_of os))
 field_octets_text first kinds.Number16 os = led first (option_map decimal (number_of os))
