@@ -1,5 +1,6 @@
-"""A second writer of responses, from RFC 1034 (4.3.2), 1035 (4.1), 2181 (9), 2930 (4), 3225, 4035 (3.1.6), 6891, 6895
-(3.1) and 9471. The sections are those of the second reader of zones; here they become octets."""
+"""A second writer of responses, from RFC 1034 (4.3.2), 1035 (4.1), 2181 (9), 2308 (2.1), 2930 (4), 3225, 4035 (3.1.6),
+6604 (3), 6672 (3.2), 6891, 6895 (3.1) and 9471. The sections of each question are those of the second reader of zones;
+here aliases are followed, and the sections become octets."""
 
 import pathlib
 import struct
@@ -10,6 +11,7 @@ import second as zones
 
 FORMERR, NOTIMP, REFUSED, BADVERS = 1, 4, 5, 16
 LEAST, STREAM = 512, 65535
+ALIASES = 16  # That many are followed: the library's choice.
 
 
 def wire(labels):
@@ -173,6 +175,34 @@ def fill(writer, sections, room):
     return writer, counts, False
 
 
+def with_made(section):
+    """An answer section, with the CNAME that a DNAME makes as an RRset."""
+    parts = [it.split("/") if isinstance(it, str) else None for it in section]
+    return [
+        (made[0], int(made[1]), [(int(made[2]), wire(zones.labels_of(made[3])))]) if made else it
+        for it, made in zip(section, parts)
+    ]
+
+
+def followed(zone, name, rtype):
+    """The answers of a zone to a question and to those of its chain, each with its sections (RFC 1034, 4.3.2, step 3a;
+    RFC 6672, 3.2). The last owner of an answer section is the alias, whose one record is its target. No name is asked
+    about twice, and none out of the zone."""
+    said, asked = [], []
+    while True:
+        answer, section, *rest = zone.answer(name, rtype)
+        section = with_made(section)
+        said.append((answer, section, *rest))
+        asked.append([it.lower() for it in zones.labels_of(name)])
+        is_alias = answer.removeprefix("synthesized ").startswith("alias ") or answer.startswith("redirect ")
+        if not is_alias or rtype in (zones.CNAME, zones.ANY) or len(asked) > ALIASES:
+            return said
+        target = zones.name_in(section[-1][2][0][1])
+        if zone.inside(target) is None or [it.lower() for it in target] in asked:
+            return said
+        name = zones.text_of(target) if target else "."
+
+
 def response(zone, octets, stream, size):
     """The octets of the response to a query from a zone, by a server that states this size, or None."""
     if len(octets) < 12 or octets[2] & 128:
@@ -189,14 +219,15 @@ def response(zone, octets, stream, size):
     asked = int(bool(query.questions))
     if code is None:
         name, rtype, _ = query.questions[0]
-        answer, *sections = zone.answer(zones.text_of(name) if name else ".", rtype)
-        for it in sections[0]:
-            if isinstance(it, str):
-                owner, kind, ttl, target = it.split("/")
-                sections[0][1] = owner, int(kind), [(int(ttl), wire(zones.labels_of(target)))]
-        said = zones.header_of(answer)
-        aa, code = "aa=1" in said, int(said.split("rcode=")[1])
-        writer, counts, cut = fill(writer, sections, room)
+        steps = followed(zone, zones.text_of(name) if name else ".", rtype)
+        answers = []
+        for _, section, _, _ in steps:
+            # A record isn't repeated (RFC 2181, 5): a DNAME can redirect twice.
+            answers += [it for it in section if it not in answers]
+        # AA is of the first owner (RFC 1035, 4.1.1), the response code of the last question (RFC 6604, 3).
+        first, last = (zones.header_of(it[0]) for it in (steps[0], steps[-1]))
+        aa, code = "aa=1" in first, int(last.split("rcode=")[1])
+        writer, counts, cut = fill(writer, [answers, *steps[-1][2:]], room)
     if has_opt(query):
         ttl = code >> 4 << 24 | (edns[2] & 0x8000 if edns else 0)
         writer.octets += b"\0" + struct.pack(">HHIH", zones.OPT, own, ttl, 0)

@@ -52,6 +52,43 @@ SMALL = [
 ]
 WWW = ("www.example.", A)
 
+# Aliases: chains that end in each way, loops, and one of 18 aliases.
+AT = drawing.address("192.0.2.3")
+MADE = ".".join(["m" * 62] * 3)
+CHAINS = [
+    ("www.example.", A, AT),
+    ("WWW.example.", TXT, drawing.text("w")),
+    ("one.example.", CNAME, NAME("www.example.")),
+    ("two.example.", CNAME, NAME("One.eXample.")),
+    ("self.example.", CNAME, NAME("SELF.example.")),
+    *((f"{it}.of2.example.", CNAME, NAME(f"{1 - it}.of2.example.")) for it in range(2)),
+    *((f"{it}.of3.example.", CNAME, NAME(f"{(it + 1) % 3}.OF3.example.")) for it in range(3)),
+    ("into.example.", CNAME, NAME("0.of3.example.")),
+    ("out.example.", CNAME, NAME("www.example.net.")),
+    ("up.example.", CNAME, NAME("out.example.")),
+    ("cut.example.", CNAME, NAME("www.sub.example.")),
+    ("sub.example.", NS, NAME("ns.sub.example.")),
+    ("ns.sub.example.", A, AT),
+    ("gone.example.", CNAME, NAME("no.example.")),
+    ("*.w.example.", CNAME, NAME("a.b.v.example.")),
+    ("*.v.example.", CNAME, NAME("two.example.")),
+    ("old.example.", DNAME, NAME("new.example.")),
+    ("a.new.example.", CNAME, NAME("b.old.example.")),
+    ("b.new.example.", A, AT),
+    ("loop.example.", DNAME, NAME("loop2.example.")),
+    ("loop2.example.", DNAME, NAME("loop.example.")),
+    # a.grows leads to a.x.grows2, and this to a.y.x.grows, which has four octets more.
+    ("grows.example.", DNAME, NAME("x.grows2.example.")),
+    ("grows2.example.", DNAME, NAME("y.grows.example.")),
+    # A DNAME that adds 189 octets, and one that leads to it.
+    ("long.example.", DNAME, NAME(f"{MADE}.example.")),
+    ("far.example.", CNAME, NAME(f"{'n' * 60}.long.example.")),
+    *((f"c{it}.example.", CNAME, NAME(f"c{it + 1}.example.")) for it in range(18)),
+    ("c18.example.", A, AT),
+]
+LONG_END = [("to.example.", CNAME, NAME("end.example."))]
+LONG_END += [("end.example.", TXT, bytes([99]) + b"%099d" % it) for it in range(40)]
+
 # RRsets that don't fit: 40 texts of 100 octets, 20 of 20, and name servers with addresses below the cut and beside it.
 LONG = [("long.example.", TXT, bytes([99]) + b"%099d" % it) for it in range(40)]
 SOME = [("some.example.", TXT, bytes([19]) + b"%019d" % it) for it in range(20)]
@@ -85,13 +122,103 @@ TOLD = [
             (query(*WWW, flags=0), "8400 1 1 0 0"),
             (query(*WWW, flags=CD), "8400 1 1 0 0"),
             (query(*WWW, flags=0x07F0), "8500 1 1 0 0"),
-            (query("alias.example.", A), "8500 1 1 0 0"),
-            (query("a.old.example.", A), "8500 1 2 0 0"),
+            (query("alias.example.", A), "8500 1 2 0 0"),
+            (query("a.old.example.", A), "8503 1 2 1 0"),
             (query("www.example.", AAAA), "8500 1 0 1 0"),
             (query("no.example.", A), "8503 1 0 1 0"),
             (query("a.w.example.", TXT), "8500 1 1 0 0"),
             (query("a.sub.example.", A), "8100 1 0 1 1"),
             (query("WWW.eXample.", ANY), "8500 1 1 0 0"),
+        ],
+    ),
+    (
+        "RFC 1034, 4.3.2, step 3a: a CNAME is followed, and what its target has is after it",
+        CHAINS,
+        UDP,
+        [
+            (query("one.example.", A), "8500 1 2 0 0"),
+            (query("two.example.", A), "8500 1 3 0 0"),
+            (query("TWO.example.", TXT), "8500 1 3 0 0"),
+            (query("two.example.", CNAME), "8500 1 1 0 0"),
+            (query("two.example.", ANY), "8500 1 1 0 0"),
+            (query("a.w.example.", A), "8500 1 5 0 0"),
+            (query("a.w.example.", CNAME), "8500 1 1 0 0"),
+            (query("a.w.example.", ANY), "8500 1 1 0 0"),
+        ],
+    ),
+    (
+        "RFC 6604, 3; RFC 2308, 2.1 and 2.2: the code is that of the last name, with the SOA of a negative response",
+        CHAINS,
+        UDP,
+        [
+            (query("gone.example.", A), "8503 1 1 1 0"),
+            (query("two.example.", AAAA), "8500 1 2 1 0"),
+            (query("a.w.example.", AAAA), "8500 1 4 1 0"),
+            (query("gone.example.", A, opts=edns(1232, DO)), "8503 1 1 1 1"),
+        ],
+    ),
+    (
+        "RFC 1034, 4.3.2: a chain that leaves the zone ends with its alias, and one that comes to a cut with a referral",
+        CHAINS,
+        UDP,
+        [
+            (query("out.example.", A), "8500 1 1 0 0"),
+            (query("up.example.", A), "8500 1 2 0 0"),
+            (query("cut.example.", A), "8500 1 1 1 1"),
+            (query("cut.example.", A, opts=edns(1232)), "8500 1 1 1 2"),
+        ],
+    ),
+    (
+        "A chain that comes back to a name ends before it, and of a long one sixteen aliases are followed",
+        CHAINS,
+        UDP,
+        [
+            (query("self.example.", A), "8500 1 1 0 0"),
+            (query("0.of2.example.", A), "8500 1 2 0 0"),
+            (query("0.OF3.example.", A), "8500 1 3 0 0"),
+            (query("into.example.", A), "8500 1 4 0 0"),
+            (query("c0.example.", A), "8500 1 17 0 0"),
+            (query("c1.example.", A), "8500 1 17 0 0"),
+            (query("c2.example.", A), "8500 1 17 0 0"),
+            (query("c3.example.", A), "8500 1 16 0 0"),
+            (query("c2.example.", AAAA), "8500 1 16 1 0"),
+            (query("c1.example.", AAAA), "8500 1 17 0 0"),
+        ],
+    ),
+    (
+        "RFC 6672, 2.2 and 3.2: a DNAME is followed, and a name that would be too long is YXDOMAIN",
+        CHAINS,
+        UDP,
+        [
+            (query("a.old.example.", A), "8500 1 5 0 0"),
+            (query("a.old.example.", DNAME), "8500 1 4 1 0"),
+            (query("b.old.example.", A), "8500 1 3 0 0"),
+            (query("b.old.example.", AAAA), "8500 1 2 1 0"),
+            (query("c.old.example.", A), "8503 1 2 1 0"),
+            (query("a.old.example.", CNAME), "8500 1 2 0 0"),
+            (query("a.old.example.", ANY), "8500 1 2 0 0"),
+            (query("a.loop.example.", A), "8500 1 4 0 0"),
+            (query("far.example.", A), "8506 1 2 0 0"),
+        ],
+    ),
+    (
+        "RFC 6672, 2.2; RFC 6604, 3: a DNAME chain that grows ends with YXDOMAIN, or at the limit",
+        CHAINS,
+        TCP,
+        [
+            (query("a.grows.example.", A), "8500 1 19 0 0"),
+            (query(f"{'g' * 63}.{'h' * 63}.{'i' * 63}.{'j' * 20}.grows.example.", A), "8506 1 15 0 0"),
+        ],
+    ),
+    (
+        "RFC 2181, 9: what doesn't fit of a chain is left out by whole RRsets, and the code is that of its end",
+        CHAINS + LONG_END,
+        UDP,
+        [
+            (query("to.example.", TXT), "8700 1 1 0 0"),
+            (query("to.example.", TXT, opts=edns(4096)), "8700 1 1 0 1"),
+            (query("c9.example.", AAAA), "8500 1 9 1 0"),
+            (query(f"{'g' * 63}.{'h' * 63}.{'i' * 20}.loop.example.", A), "8700 1 3 0 0"),
         ],
     ),
     (

@@ -190,7 +190,8 @@ class Report:
             "out when this project reads and writes them: [CONFORMANCE.md](CONFORMANCE.md#messages-of-other-writers). "
             "`evidence/compare/registries` checks whether the types, classes, codes and options here have IANA's "
             "numbers and words. It compares each with the copy of the registry that Net::DNS has, and prints what is "
-            "later than that copy."), "")
+            "later than that copy. What `dnszone` and name servers answer to the same queries: "
+            "[last run](../evidence/zones/last-run.md)."), "")
 
     def differences(self):
         self.say("## Where this project differs", "")

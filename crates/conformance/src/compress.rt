@@ -34,7 +34,7 @@ pub fn put_compressed(out: &Answer, calls: &[u8]) {
     put_on::<Vec<u8>>(out, calls);
 }
 
-/// `compresscap OCTETS CALLS`: the same over an array of so many octets.
+/// `compresscap OCTETS CALLS`: the same over an array of OCTETS octets.
 pub fn put_compressedcap(out: &Answer, room: usize, calls: &[u8]) {
     match room {
         22 => put_on::<ArrayVec<u8, 22>>(out, calls),
@@ -307,7 +307,7 @@ fn put_appended<T: EmptyBuilder + Composer>(
     taken
 }
 
-/// A name is refused where a room is full, or for want of memory.
+/// A name is refused where a room is full, or where there is no memory.
 fn put_refused(out: &Answer, room: Option<usize>) {
     match room {
         Some(_) => out.put(b"err"),
@@ -315,7 +315,7 @@ fn put_refused(out: &Answer, room: Option<usize>) {
     }
 }
 
-/// Each name that is left is read at its offset, up to its end.
+/// Each remaining name is read at its offset, up to its end.
 fn are_read_back(out: &Answer, message: &[u8], names: &mut Vec<Written>) {
     let left = names
         .iter()

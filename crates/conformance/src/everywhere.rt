@@ -6,8 +6,8 @@ use conformance_labels::{Answer, parser_at};
 use domain_list::NameLabels;
 use domain_parsed::ParsedName;
 
-/// `everywhere MSG`: the number of pairs of an offset and an end, where `parse` and `skip` answer at each as the slow
-/// reader does; else the first offset and end where one doesn't, and what differs.
+/// `everywhere MSG`: the number of pairs of an offset and an end, if `parse` and `skip` answer at each as the slow
+/// reader does. Otherwise the first pair where one of them doesn't, and what differs.
 pub fn put_everywhere(out: &Answer, message: &[u8]) {
     let mut pairs: usize = 0;
     for end in 0..message.len().saturating_add(1) {

@@ -21,7 +21,7 @@ pub fn name_at(message: &[u8], offset: usize) -> Option<ParsedName<&[u8]>> {
 
 /// The same name as a `Name`. If memory is refused, that is noted, and there is none.
 ///
-/// A call that is generic over names is dear to check, so it stands here once.
+/// A call that is generic over names is expensive to check, so it stands here once.
 pub fn flat_of(out: &Answer, name: &ParsedName<&[u8]>) -> Option<Name<Vec<u8>>> {
     match name.to_vec(out.alloc()) {
         Ok(flat) => Some(flat),
@@ -101,7 +101,7 @@ fn put_read(out: &Answer, name: &ParsedName<&[u8]>, offset: usize) {
     is_flattened(out, *name, flat.as_slice());
 }
 
-/// What a name in a message tells of its octets is what the same name as a `Name` tells.
+/// What a name in a message says of its octets is what the same name as a `Name` says.
 fn is_measured_as(out: &Answer, name: &ParsedName<&[u8]>, flat: &Name<&[u8]>) {
     let len = flat.len();
     let lent = name.as_flat_slice();

@@ -75,7 +75,7 @@ pub fn put_room(out: &Answer, message: &[u8], offset: usize, room: usize) {
     }
 }
 
-/// `sized MSG PLACE N`: the name and its canonical form made over an array of N octets.
+/// `sized MSG PLACE N`: the name and its canonical form, in an array of N octets.
 pub fn put_sized(out: &Answer, message: &[u8], offset: usize, size: usize) {
     let Some(name) = name_at(message, offset) else {
         return out.fail(Fail::Bad);

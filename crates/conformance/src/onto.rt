@@ -8,7 +8,7 @@ use domain_name::{Name, RelativeName};
 use domain_traits::{ToName, ToRelativeName};
 use octseq::{EmptyBuilder, Octets, OctetsBuilder};
 
-/// `onto SIZE MSG CALLS`: calls over an array of so many octets, 17 at most, and after each what it holds.
+/// `onto SIZE MSG CALLS`: calls over an array of SIZE octets, 17 at most, and after each what it holds.
 pub fn put_onto(out: &Answer, size: usize, message: &[u8], calls: &[u8]) {
     if size < 9 {
         put_onto_few(out, size, message, calls);

@@ -3,7 +3,7 @@
 use conformance_labels::{Answer, Fail, is, octets_of};
 use domain_tool::tool::run;
 
-/// `run WORDS INPUT`: the status, what is written, and the reason that is told.
+/// `run WORDS INPUT`: the status, what is written, and the reason that it gives.
 pub fn put_run(out: &Answer, words: &[u8], input: &[u8]) {
     let words = words_of(out, words);
     let mut texts: Vec<&str> = Vec::new(out.alloc());

@@ -102,7 +102,7 @@ fn append<D: ComposeRecordData, T: Composer>(out: &Answer, data: &D, target: &mu
     }
 }
 
-/// The length that is told is that of what is composed.
+/// The length that a call returns is that of what is composed.
 fn is_measured(out: &Answer, data: Data<'_>, wanted: &[u8]) {
     let mut composed: Vec<u8> = Vec::new(out.alloc());
     if data.compose_rdata(&mut composed).is_err() {
@@ -142,7 +142,7 @@ fn is_composed_where_it_fits<B: EmptyBuilder + Composer + Drop>(
     );
 }
 
-/// Data of any type is all that is left of a message.
+/// Data of any type is the rest of a message.
 fn is_read(out: &Answer, octets: &[u8]) {
     let rtype = Rtype::from_int(1);
     let mut parser = Parser::from_ref(octets);
@@ -180,7 +180,7 @@ pub fn put_rdatacmp(out: &Answer, a: &[u8], b: &[u8]) {
     out.agree(a.partial_cmp(&b) == Some(order), b"partial_cmp");
 }
 
-/// `longdata LEN`: so many octets that are zero as record data.
+/// `longdata LEN`: LEN zero octets as record data.
 pub fn put_longdata(out: &Answer, len: usize) {
     let mut octets: Vec<u8> = Vec::new(out.alloc());
     if len > 100_000 || octets.resize(len, 0).is_err() {

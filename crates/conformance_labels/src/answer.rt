@@ -120,7 +120,7 @@ impl Answer {
 
     /// Calls that must agree with others, and whether each does. Their names have a semicolon between.
     ///
-    /// A literal is dear to check, and a call on the answer as well: so calls that are made together are told
+    /// A literal is expensive to check, and so is a call on the answer: what calls made together say is put
     /// together.
     pub fn agree_all(&self, calls: &[u8], holds: &[bool]) {
         let mut names = calls.split(|octet| *octet == b';');

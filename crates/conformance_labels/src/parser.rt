@@ -160,7 +160,7 @@ fn put_done(out: &Answer, done: Result<(), ShortInput>) {
     }
 }
 
-/// A parser's offset, and the octets that are left in it.
+/// A parser's offset, and its remaining octets.
 fn put_parser(out: &Answer, parser: Result<Parser<'_>, ShortInput>) {
     match parser {
         Ok(parser) => {

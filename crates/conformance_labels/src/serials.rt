@@ -54,7 +54,7 @@ fn is_written(out: &Answer, serial: Serial) {
     is_read_back(out, serial, made.as_slice());
 }
 
-/// The octets are as many as are told, and are read as the serial number, once.
+/// The octets are as many as the call says, and are read as the serial number, once.
 fn is_read_back(out: &Answer, serial: Serial, octets: &[u8]) {
     let mut parser = Parser::from_ref(octets);
     out.agree_all(

@@ -91,8 +91,8 @@ pub fn read<'a, D: ParseRecordData<'a> + CanonicalRecordData + Drop>(
     }
 }
 
-/// The octets with no name compressed, what the canonical call appends, with a word before it where that isn't the
-/// canonical form, and the length if it is known where names are compressed.
+/// The octets with no name compressed; what the canonical call appends; and the length, if it is known where names are
+/// compressed. A word stands before the second where it isn't the canonical form.
 fn put_forms<D: CanonicalRecordData>(out: &Answer, data: &D) {
     let mut composed: Vec<u8> = Vec::new(out.alloc());
     let mut canonical: Vec<u8> = Vec::new(out.alloc());

@@ -1,7 +1,7 @@
 //! The conformance table of messages: reads calls from standard input, one a line, makes them, and prints one line of
 //! answer for each.
 //!
-//! README.md tells the lines and the answers.
+//! README.md lists the lines and the answers.
 #![tactic(auto)]
 
 mod compose;

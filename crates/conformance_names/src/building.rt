@@ -174,7 +174,7 @@ pub fn put_build(out: &Answer, line: &[u8]) {
     put_line(out, None, line);
 }
 
-/// `buildcap OCTETS CALLS`: over an array of so many octets.
+/// `buildcap OCTETS CALLS`: over an array of OCTETS octets.
 pub fn put_buildcap(out: &Answer, room: usize, line: &[u8]) {
     put_line(out, Some(room), line);
 }
@@ -206,7 +206,7 @@ fn put_more(out: &Answer, builder: &mut NameBuilder<Vec<u8>>, line: &[u8]) {
     put_left(out, builder);
 }
 
-/// Calls over an array of so many octets, or over a `Vec`.
+/// Calls over an array with this capacity, or over a `Vec`.
 fn put_line(out: &Answer, room: Option<usize>, line: &[u8]) {
     let arguments = arguments_of(out, line);
     let mut calls = Vec::new(out.alloc());
@@ -242,7 +242,7 @@ fn put_built_in_room(out: &Answer, plan: Plan<'_>, room: usize) -> bool {
     }
 }
 
-/// The calls over an array of so many octets.
+/// The calls over an array with this capacity.
 fn put_built_in_array<const N: usize>(out: &Answer, plan: Plan<'_>) -> bool
     requires { N ≤ 255 }
 {
@@ -330,7 +330,7 @@ fn put_call<B: OctetsBuilder + OctetsMut>(
     }
 }
 
-/// A refusal that is told by its kind.
+/// A refusal by its kind.
 trait Kind {
     fn put(&self, out: &Answer);
 }
@@ -360,7 +360,7 @@ impl Kind for FromStrError {
     }
 }
 
-/// Puts whether a call was accepted, or why not, and tells that.
+/// Puts whether a call was accepted, or why not, and returns it.
 fn put_done<E: Kind + Copy>(out: &Answer, done: Result<(), E>) -> bool {
     match done {
         Ok(()) => {

@@ -1,4 +1,4 @@
-//! Octets and builders that are made with room for so many octets.
+//! Octets and builders that are made with a capacity.
 
 use arrayvec::ArrayVec;
 use conformance_labels::{Answer, Fail, length_of};

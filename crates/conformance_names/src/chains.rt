@@ -1,7 +1,7 @@
 //! Chains of two names.
 //!
-//! A call that is generic over names is dear to check at a chain. So each kind of chain is given to one generic
-//! function, which is told the call.
+//! A call that is generic over names is expensive to check at a chain. So each kind of chain is given to one generic
+//! function, which takes the call as an argument.
 
 use crate::compare::{put_both_related, put_both_relative_related, put_ends_of, put_related};
 use crate::flat::put_stripped;

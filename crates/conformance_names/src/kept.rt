@@ -53,7 +53,7 @@ fn is_kept_in_an_array(out: &Answer, octets: &[u8]) {
     }
 }
 
-/// The name made over octets of each kind.
+/// The name in octets of each kind.
 fn is_made_of_slice(out: &Answer, octets: &[u8]) {
     let Ok(name) = Name::from_slice(octets) else {
         return out.fail(Fail::Bad);

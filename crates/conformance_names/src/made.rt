@@ -1,6 +1,6 @@
 //! What a name of any kind is made into.
 //!
-//! A function that is generic over names is dear to check. So each kind of names has one here, which hands what was
+//! A function that is generic over names is expensive to check. So each kind has one here, which hands what was
 //! made to functions that aren't.
 
 use crate::octets::{absolute_of, relative_of};
@@ -15,7 +15,7 @@ use std::borrow::CowSlice;
 /// How many octets an array has that can be too small for a name.
 pub const SIZE: usize = 17;
 
-/// An array that has room for so many octets after those that it holds.
+/// An array with this much room after the octets that it holds.
 fn with_room(out: &Answer, room: usize) -> ArrayVec<u8, SIZE> {
     let mut target = ArrayVec::new();
     for _held in room..SIZE {
@@ -36,7 +36,7 @@ fn put_all_composed(out: &Answer, word: &[u8], taken: bool, octets: &Vec<u8>) {
     out.asked_once(octets, b"memory of compose");
 }
 
-/// A name that was made over a `Vec` is this one.
+/// A name in a `Vec` is this one.
 fn is_made<E: Drop>(out: &Answer, made: Result<Name<Vec<u8>>, E>, wanted: &[u8], call: &[u8]) {
     match made {
         Ok(made) => {
@@ -82,8 +82,8 @@ fn put_held(out: &Answer, word: &[u8], made: Result<Name<ArrayVec<u8, 17>>, Shor
     }
 }
 
-/// The name over a `Vec`, its canonical form, whether `to_cow` lends, the same over 17 octets, and
-/// what is composed into 17 octets after one octet; the text with a final dot, and the labels that a signature
+/// The name over a `Vec`, its canonical form, and whether `to_cow` lends; then the same over 17 octets, and what is
+/// composed into 17 octets after one octet. After these the text with a final dot, and the labels that a signature
 /// counts.
 pub fn put_forms<'a, N: AbsoluteLabels<'a>>(out: &Answer, name: &'a N) {
     let alloc = out.alloc();
@@ -136,7 +136,7 @@ pub fn put_lent_forms(out: &Answer, octets: &[u8]) {
     put_forms(out, &&name);
 }
 
-/// A relative name that was made over a `Vec` is this one.
+/// A relative name in a `Vec` is this one.
 fn is_relative_made(
     out: &Answer,
     made: Result<RelativeName<Vec<u8>>, ShortBuf>,

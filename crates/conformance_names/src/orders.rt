@@ -62,7 +62,7 @@ pub fn put_mixture<'a, I: LabelIterator<'a>, J: LabelIterator<'a>>(
     }
 }
 
-/// Labels as they stand on the wire, one after the other.
+/// Labels in wire format, one after the other.
 pub fn wire_of<'a, I: LabelIterator<'a>>(out: &Answer, labels: I) -> Vec<u8> {
     let mut octets: Vec<u8> = Vec::new(out.alloc());
     let mut labels = labels;

@@ -1,13 +1,14 @@
 //! A response as text.
 
 use crate::print::{Front, put, put_name, put_record};
-use domain_header::Class;
+use domain_header::{Class, Rcode};
 use domain_message::RtypeText;
 use domain_name::Name;
 use domain_rdata::Rtype;
 use domain_traits::ToName;
 use domain_zone::Zone;
-use domain_zone_answer::{Response, SectionRrset, SynthesizedCname, respond};
+use domain_zone_answer::{SectionRrset, SynthesizedCname, respond};
+use domain_zone_chain::{AnswerRrset, ChainResponse, follow, names_of, respond_along};
 use std::alloc::{AllocError, Global};
 
 /// Appends the records of an RRset in a section.
@@ -49,26 +50,34 @@ fn put_cname(
     put_record(alloc, front, name.as_slice(), out)
 }
 
-/// Appends the status, the flag and the question.
-fn put_head(
+/// Appends the status and the flag.
+fn put_header(
     alloc: Global,
-    class: Class,
-    response: &Response<'_>,
-    question: (Name<&[u8]>, Rtype),
+    rcode: Rcode,
+    is_authoritative: bool,
     out: &mut Vec<u8>,
 ) -> Result<(), AllocError> {
-    let (name, rtype) = question;
     put(alloc, ";; status: ", out)?;
-    put(alloc, response.rcode(), out)?;
+    put(alloc, rcode, out)?;
     put(
         alloc,
-        if response.is_authoritative() {
+        if is_authoritative {
             ", flags: qr aa"
         } else {
             ", flags: qr"
         },
         out,
-    )?;
+    )
+}
+
+/// Appends the question.
+fn put_question(
+    alloc: Global,
+    class: Class,
+    name: Name<&[u8]>,
+    rtype: Rtype,
+    out: &mut Vec<u8>,
+) -> Result<(), AllocError> {
     put(alloc, "\n;; QUESTION SECTION:\n;", out)?;
     put_name(alloc, name, out)?;
     out.push(b' ')?;
@@ -94,24 +103,31 @@ fn put_section(
     Ok(())
 }
 
-/// Appends the response of a zone to a question, section by section.
-pub fn put_response(
+/// Appends the RRsets of an answer section.
+fn put_answers(
     alloc: Global,
-    zone: &Zone,
-    name: &Name<&[u8]>,
-    rtype: Rtype,
+    class: Class,
+    answers: &[AnswerRrset<'_>],
     out: &mut Vec<u8>,
 ) -> Result<(), AllocError> {
-    let response = respond(zone, name, rtype.to_int());
-    let class = zone.class();
-    put_head(alloc, class, &response, (*name, rtype), out)?;
+    for answer in answers {
+        match answer {
+            AnswerRrset::Zones(set) => put_set(alloc, class, *set, out)?,
+            AnswerRrset::Made(cname) => put_cname(alloc, class, *cname, out)?,
+        }
+    }
+    Ok(())
+}
+
+/// Appends the sections after the question.
+fn put_sections(
+    alloc: Global,
+    class: Class,
+    response: &ChainResponse<'_>,
+    out: &mut Vec<u8>,
+) -> Result<(), AllocError> {
     let mut section = Vec::new(alloc);
-    if let Some(set) = response.answer() {
-        put_set(alloc, class, set, &mut section)?;
-    }
-    if let Some(cname) = response.synthesized_cname() {
-        put_cname(alloc, class, cname, &mut section)?;
-    }
+    put_answers(alloc, class, response.answers(), &mut section)?;
     put_section(alloc, ";; ANSWER SECTION:\n", section.as_slice(), out)?;
     section.clear();
     if let Some(set) = response.authority() {
@@ -123,4 +139,23 @@ pub fn put_response(
         put_set(alloc, class, set, &mut section)?;
     }
     put_section(alloc, ";; ADDITIONAL SECTION:\n", section.as_slice(), out)
+}
+
+/// Appends the response of a zone to a question and the questions of its chain, section by section.
+pub fn put_response(
+    alloc: Global,
+    zone: &Zone,
+    name: &Name<&[u8]>,
+    rtype: Rtype,
+    out: &mut Vec<u8>,
+) -> Result<(), AllocError> {
+    let number = rtype.to_int();
+    let first = respond(zone, name, number);
+    let is_authoritative = first.is_authoritative();
+    let names = follow(alloc, zone, name, number, first.outcome())?;
+    let views = names_of(alloc, names.as_slice())?;
+    let response = respond_along(alloc, zone, number, first, views.as_slice())?;
+    put_header(alloc, response.rcode(), is_authoritative, out)?;
+    put_question(alloc, zone.class(), *name, rtype, out)?;
+    put_sections(alloc, zone.class(), &response, out)
 }

@@ -14,7 +14,7 @@ use Rattle.domain_any_rdata.specs.AllData.{data_of, seen_data, IsAllData}
 use Rattle.domain_any_rdata.specs.Reading.{InternetDataAt, NoInternetData}
 use Rattle.domain_any_rdata.specs.declared.all.AllRecordData.{AllRecordData}
 
--- what isn't refused as too long has at most so many octets
+-- what isn't refused as too long has at most 65,535 octets
 few_by : (n : ℕ) (b : Bool) → nat_lt 65535 n ≡ b → ((65535 < n) → ⊥) → n ≤ 65535
 few_by n true many short = absurd (short (grind (arith, nat_tests)))
 few_by n false few short = grind (arith, nat_tests)

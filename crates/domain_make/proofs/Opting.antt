@@ -111,7 +111,7 @@ take_all [] (suc n) few = refl
 take_all (x ∷ t) zero few = absurd (omega arith)
 take_all (x ∷ t) (suc n) few = ap (λ z. x ∷ z) (take_all t n (omega arith))
 
--- what is left after so many octets
+-- the rest after the first of the octets
 abbrev pub left : ℕ → List ℕ → List ℕ
 left n t = take (length t - n) (drop n t)
 

@@ -40,7 +40,7 @@ pub record BeginsWithPair (text : List ℕ) (octet : ℕ) (rest : List ℕ) : Ty
   pub small : octet < 256
   pub text_is : text ≡ spaced_octet octet ++ rest
 
--- The text tells the bits that must be zero (6.1.4), if one of them isn't, and then the rest.
+-- The text has the bits that must be zero (6.1.4), if one of them isn't, and then the rest.
 pub data IsZeroText (text : List ℕ) (bits : ℕ) (rest : List ℕ) : Type 0 where
   none : BeginsOtherwise (codes "MBZ: 0x") text → bits ≡ 0 → rest ≡ text → IsZeroText text bits rest
   some : bits < 16384 → text ≡ codes "MBZ: 0x" ++ (four_digits bits ++ (codes ", " ++ rest)) → IsZeroText text bits rest
@@ -51,7 +51,7 @@ pub data IsStatusText (text : List ℕ) (code : ℕ) : Type 0 where
   bad_cookie : text ≡ codes "BADCOOKIE" → code ≡ 23 → IsStatusText text code
   numbered : (digits : List ℕ) → text ≡ codes "RCODE" ++ digits → IsNumberBelow 4096 digits code → 16 ≤ code → IsStatusText text code
 
--- The text is a size, and a response code where one is told.
+-- The text is a size, and a response code where it has one.
 pub data IsSizeText (text : List ℕ) (size : ℕ) (code : Option ℕ) : Type 0 where
   alone : IsNumberBelow 65536 text size → code ≡ None → IsSizeText text size code
   coded : (digits status : List ℕ) (n : ℕ) → text ≡ digits ++ (codes ", status: " ++ status) → IsNumberBelow 65536 digits size → IsStatusText status n → code ≡ Some n → IsSizeText text size code
@@ -67,7 +67,7 @@ pub record IsEdnsLine (text : List ℕ) (told : EdnsTold) : Type 0 where
   pub zero_is : IsZeroText from_zero told.zero (codes "udp: " ++ from_size)
   pub size_is : IsSizeText from_size told.size told.code
 
--- the upper eight bits of the response code of twelve, where one is told (6.1.3)
+-- the upper eight bits of the response code of twelve, where the text has one (6.1.3)
 abbrev pub upper_of : Option ℕ → ℕ
 upper_of None = 0
 upper_of (Some code) = code / 16 % 256
@@ -101,7 +101,7 @@ pub record IsOptionLine (text octets : List ℕ) : Type 0 where
   pub short : length data_octets ≤ 65535
   pub octets_are : octets ≡ option_octets code data_octets
 
--- These are so many octets, at least one, which end before an option does.
+-- These are as many octets as the number says, at least one, and they end before an option does.
 pub record IsCut (octets : List ℕ) (count : ℕ) : Type 0 where
   pub count_is : count ≡ length octets
   pub some : 0 < length octets

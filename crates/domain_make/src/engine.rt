@@ -171,9 +171,9 @@ fn tell<D: fmt::Display + Drop, E: Sink>(reason: D, errors: &mut E)
     let _ = errors.put_line(reason);
 }
 
-/// Carries out the words that follow the program's name, where the first of them is `make`. The answer is the status
-/// to end with: 0 where the message was written, 1 where a line isn't taken, 2 for other words than `make`, and
-/// `--hex` or not; 3 where reading, writing or memory failed, and for nothing else.
+/// Carries out the words that follow the program's name: `make`, with `--hex` after it or not. The answer is the
+/// status to end with: 0 where the message was written, 1 where a line isn't taken, 2 for other words, and 3 where
+/// reading, writing or memory failed.
 ///
 /// The reason is written to `errors`, and a newline: of status 1 the line, the column and the fault, of 2 the usage,
 /// of 3 `reading failed`, `writing failed` or `out of memory`. That this fails changes no status. Where all is done

@@ -19,7 +19,7 @@ use domain_tool::offset_of_word;
 use std::alloc::Global;
 use std::str::from_utf8;
 
-/// What the first line of an OPT record tells. The code is the response code of more than four bits, if one is told.
+/// What the first line of an OPT record says. The code is the response code of more than four bits, if there is one.
 #[derive(Clone, Copy)]
 pub(crate) struct EdnsTold {
     version: u8,
@@ -170,7 +170,7 @@ fn zero_of(text: &[u8]) -> Option<(u16, &[u8])>
     Some((u16::from(high) * 256 + u16::from(low), rest))
 }
 
-/// The size, and the response code where one is told: `1232`, or `1232, status: BADVERS`.
+/// The size, and the response code where there is one: `1232`, or `1232, status: BADVERS`.
 fn size_of(text: &[u8]) -> Option<(u16, Option<u16>)>
     ensures some { IfSome result (λ it. IsSizeText text.now it.0 it.1) }
     ensures none { IsNone result → (n : ℕ) (code : Option ℕ) → IsSizeText text.now n code → ⊥ }
@@ -315,7 +315,7 @@ fn data_len(octets: &[u8]) -> usize
     usize::from(u16::from_be_bytes([octets[2], octets[3]]))
 }
 
-/// Whether these are so many octets, at least one, which end before an option does.
+/// Whether these are `count` octets, at least one, which end before an option does.
 fn is_cut(octets: &[u8], count: u32) -> bool
     ensures { IsTrue result ↔ IsCut octets.now count }
 {

@@ -243,7 +243,7 @@ adds_at y z r i taken j =
 
 -- ---- records one after another
 
--- of all records rs, those that are left and those that the RRsets hold
+-- of all records rs, the remaining ones and those that the RRsets hold
 pub record Building (rs left : List Inserted) (sets : List RRset) : Type 0 where
   pub all : (r : Inserted) → Contains rs r → Contains left r ⊎ ((s : RRset) × Contains sets s × HasRecord s r)
   pub rest : (r : Inserted) → Contains left r → Contains rs r

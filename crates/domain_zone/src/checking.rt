@@ -50,9 +50,9 @@ fn first_fault_beside(records: &ZoneRecords<Owner>) -> Option<ZoneFault>
 
 /// Why records are no zone in canonical order. `None` exactly where they are one.
 ///
-/// The RRsets are in the order of their owners (RFC 4034, 6.1), those of one owner in ascending order of their types,
-/// and the records of each RRset in ascending order of their data. Data are compared as octets, unchanged: the order
-/// of RFC 4034, 6.3, has names in lower case. Where there are several faults, one of them is returned.
+/// The RRsets are in the order of their owners (RFC 4034, 6.1), and those of one owner in ascending order of their
+/// types. The records of each RRset are in ascending order of their data. Data are compared as octets, unchanged: the
+/// order of RFC 4034, 6.3, has names in lower case. Where there are several faults, one of them is returned.
 pub fn find_fault(records: &ZoneRecords<Owner>) -> Option<ZoneFault>
     ensures { MatchOption result
         (IsCanonical (records_view records.now) × IsZone (records_view records.now))

@@ -56,8 +56,8 @@ impl Error for RrsetFault {}
 /// Why RRsets are no zone, or aren't in canonical order.
 #[derive(Clone, Copy, Debug, PartialEq, Eq)]
 pub enum ZoneFault {
-    /// The RRsets aren't in the canonical order of their owners and in ascending order of their types, or two have one
-    /// owner and one type (RFC 4034, 6.1; RFC 2181, 5).
+    /// The RRsets aren't in the canonical order of their owners (RFC 4034, 6.1) and in ascending order of their types.
+    /// Or two have the same owner and type (RFC 2181, 5).
     Order,
     /// The RRset at this index, which counts from 0, can't be in the zone.
     Rrset(usize, RrsetFault),

@@ -52,7 +52,7 @@ impl Zone {
     /// Returns what the zone answers to a question for records of a type at a name (RFC 1034, 4.3.2).
     ///
     /// The type may be ANY, 255. It allocates nothing. The RRsets are searched by halves: once for the name, which
-    /// also tells the closest encloser; for name servers at each name above it that exists; and a few times for what
+    /// also gives the closest encloser; for name servers at each name above it that exists; and a few times for what
     /// is found.
     pub fn lookup<'a>(&'a self, name: &'a Name<&'a [u8]>, rtype: u16) -> Answer<'a>
         ensures { Answers (zone_view self.now) (name_labels name.now) rtype (outcome_of result) }

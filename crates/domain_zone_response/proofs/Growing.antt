@@ -1,7 +1,8 @@
 -- Records that are pushed one after the other.
 use Rattle.std.proofs.Common.{◌≡◌, ℕ, ◌<◌, ◌≤◌, ◌+◌, suc, List, [], ◌∷◌, ◌++◌, map, take, drop, length, get_or, refl, sym, ap, subst, ◌∙◌, append_assoc, append-nil, drop-cons, take_all, arith}
 use Rattle.std.proofs.lemmas.List.{take-append-drop, map-append, map_more, length-map, length-take-le, take-map}
-use Rattle.std.specs.Prelude.{Bool, Result, Ok, Err, IfOk}
+use Rattle.std.proofs.Math.Seq.{take-append_seam}
+use Rattle.std.specs.Prelude.{Bool, true, false, IsTrue, IsFalse}
 use Rattle.domain_message.specs.declared.section.Section.{Section}
 use Rattle.domain_message.specs.declared.section.Section.TheVariants.{Answer, Authority, Additional}
 use Rattle.domain_message_builder.specs.Contents.{RecordHead, PushedRecord, Content, Holds}
@@ -229,31 +230,17 @@ single_stops c section k s h d room a is same why = record {
   why = subst (λ x. CannotAdd c section (with_head x d) a room) same why;
 }
 
--- What stops a list stops a longer one.
-pub stops_longer : (c : Bool) (section : Section) (k : ℕ) (xs zs us : List RRset) (cap : ℕ) (a b : State) → us ≡ xs ++ zs → Stops c section k xs cap a b → Stops c section k us cap a b
-stops_longer c section k xs zs us cap a b is (s, x) = (
-  record {
-    kept = s.kept;
-    next = s.next;
-    rest = s.rest ++ zs;
-    split = is ∙ (ap (λ l. l ++ zs) s.split ∙ append_assoc s.kept (s.next ∷ s.rest) zs);
-    at = s.at;
-    fills = s.fills;
-    room = s.room;
-    enough = s.enough;
-    why = s.why;
-  },
-  x,
-)
+-- One was pushed, or nothing was.
+pub gains_some : (c : Bool) (section : Section) (rs : List PushedRecord) (b : Bool) (old new : State) → (IsTrue b → Gains c section rs old new) → (IsFalse b → new ≡ old) → (ss : List PushedRecord) × Gains c section ss old new
+gains_some c section rs true old new some none = (rs, some refl)
+gains_some c section rs false old new some none = ([], subst (λ s. Gains c section [] old s) (sym (none refl)) (gains_none c section old))
 
--- The last RRset of a section was refused.
-pub stops_last : (c : Bool) (section : Section) (k : ℕ) (ys us : List RRset) (s : RRset) (cap room : ℕ) (a b d : State) → us ≡ ys ++ s ∷ [] → Fills c section (all_records k ys) a b → cap ≤ room → DoesNotFit c section k s room b → d ≡ b
-    → Stops c section k us cap a d
-stops_last c section k ys us s cap room a b d is x enough why same = (
-  record { kept = ys; next = s; rest = []; split = is; at = b; fills = x; room = room; enough = enough; why = why },
-  fills_to c section (all_records k ys) a b d same x,
-)
+-- All RRsets of a section were pushed.
+pub fills_whole : (c : Bool) (section : Section) (k : ℕ) (xs : List RRset) (n : ℕ) (a b : State) → length xs ≤ n → Fills c section (all_records k (take n xs)) a b → Fills c section (all_records k xs) a b
+fills_whole c section k xs n a b all x = subst (λ l. Fills c section (all_records k l) a b) (take_all n xs all) x
 
-pub both_ok : {A E : Type 0} (r : Result A E) (P Q R : A → Type 0) → IfOk r P → IfOk r Q → ((x : A) → P x → Q x → R x) → IfOk r R
-both_ok (Ok x) P Q R p q f = f x p q
-both_ok (Err e) P Q R p q f = tt
+-- The first n of them were, and the next doesn't fit.
+pub stops_part : (c : Bool) (section : Section) (k : ℕ) (xs : List RRset) (n cap : ℕ) (a b : State) → (s : StopsAt c section k xs cap a) × (length s.kept ≡ n) → Fills c section (all_records k (take n xs)) a b → Stops c section k xs cap a b
+stops_part c section k xs n cap a b (s, few) x =
+    let taken : take n xs ≡ s.kept = ap (λ m. take m xs) (sym few) ∙ (ap (take (length s.kept)) s.split ∙ take-append_seam s.kept (s.next ∷ s.rest)) in
+    (s, subst (λ l. Fills c section (all_records k l) a b) taken x)

@@ -2,8 +2,8 @@
 use Rattle.std.proofs.Common.{◌≡◌, ℕ, List, [], ◌∷◌, ◌++◌, sym, subst, append_assoc, append-nil}
 use Rattle.std.proofs.lemmas.List.{map-append}
 use Rattle.domain_list.specs.Ends.{EndsWith}
-use Rattle.domain_zone_answer.specs.Views.{section_view}
-use Rattle.domain_zone_answer.specs.declared.section.SectionRrset.{SectionRrset}
+use Rattle.domain_zone_chain.specs.Views.{answer_view}
+use Rattle.domain_zone_chain.specs.declared.answer.AnswerRrset.{AnswerRrset}
 use Rattle.domain_zone_laws.specs.Zone.{RRset}
 use Rattle.domain_zone_response.specs.Included.{Parts}
 use Rattle.domain_zone_response.specs.Views.{set_views}
@@ -33,5 +33,5 @@ ends cut all left ys zs is on =
 pub ends_as : (o p cut k : List (List ℕ)) → o ≡ p → cut ≡ k → EndsWith o cut → EndsWith p k
 ends_as o p cut k e f x = subst (λ l. EndsWith l k) e (subst (EndsWith o) f x)
 
-pub set_more : (xs : List SectionRrset) (s : SectionRrset) → set_views (xs ++ s ∷ []) ≡ set_views xs ++ section_view s ∷ []
-set_more xs s = map-append section_view xs (s ∷ [])
+pub set_more : (xs : List AnswerRrset) (s : AnswerRrset) → set_views (xs ++ s ∷ []) ≡ set_views xs ++ answer_view s ∷ []
+set_more xs s = map-append answer_view xs (s ∷ [])

@@ -24,8 +24,9 @@ use Rattle.domain_message_builder.specs.SectionStarts.{start_of}
 use Rattle.domain_message_builder.specs.State.{State}
 use Rattle.domain_message_builder.specs.declared.error.PushError.{PushError}
 use Rattle.domain_zone.specs.Headers.{HasAuthority, response_code}
-use Rattle.domain_zone_answer.specs.Sections.{Sections, AreSections}
-use Rattle.domain_zone_laws.specs.Answers.{Outcome, Answers}
+use Rattle.domain_zone_answer.specs.Sections.{Sections}
+use Rattle.domain_zone_chain.specs.ChainSections.{Follows}
+use Rattle.domain_zone_laws.specs.Answers.{Outcome}
 use Rattle.domain_zone_laws.specs.Zone.{Zone, RRset}
 use Rattle.domain_message_builder.proofs.Composing.{composed_after}
 use Rattle.domain_zone_response.specs.Finishing.{StartsWith, FinishesWith, EndsWith, BeginsWith, RefusesBy, Answered}
@@ -177,14 +178,14 @@ answered_by c z class limit capacity room more query m q opt a b made id high be
     let asked : Holds c x.asked (only_question q) = x.holds begun.holds in
     let before : Holds c x.before it = x.puts.fills.holds (only_question q) refl asked in
     let now : Holds c b it = subst (λ s. Holds c s it) (sym x.new_is) before in
-    let less = puts_less c class (cut_of x.outcome) x.all capacity room x.whole x.asked x.before le x.puts in (
+    let less = puts_less c class (cut_of x.last) x.all capacity room x.whole x.asked x.before le x.puts in (
       h,
       it,
       record {
-        outcome = x.outcome;
-        answers = x.answers;
+        first = x.first;
+        last = x.last;
         all = x.all;
-        are_all = x.are_all;
+        follows = x.follows;
         whole = x.whole;
         answer = x.puts.answer;
         authority = x.puts.authority;
@@ -194,7 +195,7 @@ answered_by c z class limit capacity room more query m q opt a b made id high be
         kept = pushed x.whole x.puts.answer x.puts.authority x.puts.additional less.kept;
         aa = x.aa;
         aa_is = x.aa_is;
-        header_is = subst (λ k. AnswersQuery m x.aa (not x.whole) (response_code x.outcome) k) (sym same) (by_query query b.header m x.aa (not x.whole) (response_code x.outcome) id high x.header_is);
+        header_is = subst (λ k. AnswersQuery m x.aa (not x.whole) (response_code x.last) k) (sym same) (by_query query b.header m x.aa (not x.whole) (response_code x.last) id high x.header_is);
         content = refl;
       },
       reads it now,
@@ -210,20 +211,20 @@ answered_by c z class limit capacity room more query m q opt a b made id high be
       h,
       only_question q,
       record {
-        outcome = x.outcome;
-        answers = x.answers;
+        first = x.first;
+        last = x.last;
         all = x.all;
-        are_all = x.are_all;
+        follows = x.follows;
         whole = false;
         answer = [];
         authority = [];
         additional = [];
         old = x.asked;
         begun = record { limit_is = x.limit_is ∙ begun.limit_is; aside_is = x.aside_is ∙ begun.aside_is; holds = asked };
-        kept = no_opt o x.whole x.before more some (puts_less c class (cut_of x.outcome) x.all capacity room x.whole x.asked x.before le x.puts) within (omega (arith, le, grows)) (subst (λ s. CannotAddOpt o more s) x.new_is cannot);
+        kept = no_opt o x.whole x.before more some (puts_less c class (cut_of x.last) x.all capacity room x.whole x.asked x.before le x.puts) within (omega (arith, le, grows)) (subst (λ s. CannotAddOpt o more s) x.new_is cannot);
         aa = x.aa;
         aa_is = x.aa_is;
-        header_is = cut_by m x.aa (not x.whole) (response_code x.outcome) b.header h (by_query query b.header m x.aa (not x.whole) (response_code x.outcome) id high x.header_is) sets;
+        header_is = cut_by m x.aa (not x.whole) (response_code x.last) b.header h (by_query query b.header m x.aa (not x.whole) (response_code x.last) id high x.header_is) sets;
         content = refl;
       },
       reads it now,
@@ -242,26 +243,26 @@ is_answered c z class limit capacity room more query m q opt a b made id high fi
     )
 
 -- The question and the sections were pushed, and the header was set.
-pub answers_question : (c : Bool) (z : Zone) (class k : ℕ) (query h : Header) (q : QuestionFields) (ls : List (List ℕ)) (t code : ℕ) (outcome : Outcome) (all : Sections) (all_there aa tc : Bool) (less more : ℕ) (a b d e : State)
-    → ls ≡ q.name → t ≡ q.rtype → k ≡ class → code ≡ response_code outcome → tc ≡ not all_there → Answers z ls t outcome → AreSections z ls outcome all → PushesQuestion c q a b → less ≤ more
-    → Puts c k (cut_of outcome) all more all_there b d → IsTrue aa ↔ HasAuthority outcome → RespondsTo query aa tc code h → e ≡ with_header h d → length e.octets + e.reserved ≤ e.limit → Answered c z class query q less a e
-answers_question c z class k query h q ls t code outcome all all_there aa tc less more a b d e name rtype of_class of_code of_tc answers sections put le puts authority said is within =
+pub answers_question : (c : Bool) (z : Zone) (class k : ℕ) (query h : Header) (q : QuestionFields) (ls : List (List ℕ)) (t code : ℕ) (first last : Outcome) (all : Sections) (all_there aa tc : Bool) (less more : ℕ) (a b d e : State)
+    → ls ≡ q.name → t ≡ q.rtype → k ≡ class → code ≡ response_code last → tc ≡ not all_there → Follows z ls t first last all → PushesQuestion c q a b → less ≤ more
+    → Puts c k (cut_of last) all more all_there b d → IsTrue aa ↔ HasAuthority first → RespondsTo query aa tc code h → e ≡ with_header h d → length e.octets + e.reserved ≤ e.limit → Answered c z class query q less a e
+answers_question c z class k query h q ls t code first last all all_there aa tc less more a b d e name rtype of_class of_code of_tc follows put le puts authority said is within =
     let header : e.header ≡ h = ap (λ (s : State). s.header) is in
     record {
-      outcome = outcome;
-      answers = subst (λ l. Answers z l q.rtype outcome) name (subst (λ n. Answers z ls n outcome) rtype answers);
+      first = first;
+      last = last;
       all = all;
-      are_all = subst (λ l. AreSections z l outcome all) name sections;
+      follows = subst (λ l. Follows z l q.rtype first last all) name (subst (λ n. Follows z ls n first last all) rtype follows);
       whole = all_there;
       asked = b;
       limit_is = put.settings.limit;
       aside_is = put.settings.reserved;
       holds = λ held. put.holds no_content held;
       before = d;
-      puts = puts_less c class (cut_of outcome) all less more all_there b d le (subst (λ n. Puts c n (cut_of outcome) all more all_there b d) of_class puts);
+      puts = puts_less c class (cut_of last) all less more all_there b d le (subst (λ n. Puts c n (cut_of last) all more all_there b d) of_class puts);
       aa = aa;
       aa_is = authority;
-      header_is = subst (λ x. RespondsTo query aa (not all_there) (response_code outcome) x) (sym header) (subst (λ n. RespondsTo query aa (not all_there) n h) of_code (subst (λ x. RespondsTo query aa x code h) of_tc said));
+      header_is = subst (λ x. RespondsTo query aa (not all_there) (response_code last) x) (sym header) (subst (λ n. RespondsTo query aa (not all_there) n h) of_code (subst (λ x. RespondsTo query aa x code h) of_tc said));
       new_is = is ∙ ap (λ x. with_header x d) (sym header);
       within = within;
     }

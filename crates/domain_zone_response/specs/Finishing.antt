@@ -10,8 +10,9 @@ use Rattle.domain_message_builder.specs.Reading.{IsMessageOf}
 use Rattle.domain_message_builder.specs.State.{State}
 use Rattle.domain_message_builder.specs.declared.builder.MessageBuilder.{MessageBuilder}
 use Rattle.domain_zone.specs.Headers.{HasAuthority, response_code}
-use Rattle.domain_zone_answer.specs.Sections.{Sections, AreSections}
-use Rattle.domain_zone_laws.specs.Answers.{Outcome, Answers}
+use Rattle.domain_zone_answer.specs.Sections.{Sections}
+use Rattle.domain_zone_chain.specs.ChainSections.{Follows}
+use Rattle.domain_zone_laws.specs.Answers.{Outcome}
 use Rattle.domain_zone_laws.specs.Zone.{Zone}
 use Rattle.domain_zone_response.specs.Headers.{RespondsTo}
 use Rattle.domain_zone_response.specs.Included.{cut_of, Puts}
@@ -70,20 +71,20 @@ Refuses {g = g} m code opt b made = RefusesBy g.compresses m code opt (state b) 
 -- The question was pushed, and then what the zone answers to it, and the header was set. `asked` is the state after
 -- the question, with the same limit and as many octets set aside. These are still free.
 pub record Answered (compresses : Bool) (z : Zone) (class : ℕ) (query : Header) (q : QuestionFields) (capacity : ℕ) (old new : State) : Type 0 where
-  pub outcome : Outcome
-  pub answers : Answers z q.name q.rtype outcome
+  pub first : Outcome
+  pub last : Outcome
   pub all : Sections
-  pub are_all : AreSections z q.name outcome all
+  pub follows : Follows z q.name q.rtype first last all
   pub whole : Bool
   pub asked : State
   pub limit_is : asked.limit ≡ old.limit
   pub aside_is : asked.reserved ≡ old.reserved
   pub holds : Holds compresses old no_content → Holds compresses asked (only_question q)
   pub before : State
-  pub puts : Puts compresses class (cut_of outcome) all capacity whole asked before
+  pub puts : Puts compresses class (cut_of last) all capacity whole asked before
   pub aa : Bool
-  pub aa_is : IsTrue aa ↔ HasAuthority outcome
-  pub header_is : RespondsTo query aa (not whole) (response_code outcome) new.header
+  pub aa_is : IsTrue aa ↔ HasAuthority first
+  pub header_is : RespondsTo query aa (not whole) (response_code last) new.header
   pub new_is : new ≡ record before { header = new.header }
   pub within : length new.octets + new.reserved ≤ new.limit
 

@@ -30,8 +30,8 @@ TellsOpt m (Err e) = HasOptFault m e
 abbrev pub opcode_code : ℕ → Option ℕ → Option ℕ
 opcode_code opcode other = if nat_lt 0 opcode then Some 4 else other
 
--- The response code of a query, whatever it asks. BADVERS, where the version of EDNS is above 0 (RFC 6891, 6.1.3),
--- is before NOTIMP, and that is before FORMERR, where an entry is missing, or the OPT records aren't one of the root
+-- The response code of a query, whatever it asks: the first of three that applies. BADVERS, where the version of EDNS
+-- is above 0 (RFC 6891, 6.1.3). NOTIMP. FORMERR, where an entry is missing, or the OPT records aren't one of the root
 -- (RFC 6891, 6.1.1 and 6.1.2).
 abbrev pub header_code : ℕ → Asked → Option ℕ
 header_code opcode (Ok None) = opcode_code opcode None

@@ -10,8 +10,9 @@ use Rattle.domain_message_builder.specs.Opt.{Opt}
 use Rattle.domain_message_builder.specs.Reading.{IsMessageOf}
 use Rattle.domain_message_builder.specs.State.{State}
 use Rattle.domain_zone.specs.Headers.{HasAuthority, response_code}
-use Rattle.domain_zone_answer.specs.Sections.{Sections, AreSections}
-use Rattle.domain_zone_laws.specs.Answers.{Outcome, Answers}
+use Rattle.domain_zone_answer.specs.Sections.{Sections}
+use Rattle.domain_zone_chain.specs.ChainSections.{Follows}
+use Rattle.domain_zone_laws.specs.Answers.{Outcome}
 use Rattle.domain_zone_laws.specs.Zone.{Zone, RRset}
 use Rattle.domain_zone_response.specs.Edns.{response_limit, response_opt, opt_len}
 use Rattle.domain_zone_response.specs.Headers.{IsResponseHeader}
@@ -38,23 +39,24 @@ abbrev pub AnswersQuery : List ℕ → Bool → Bool → ℕ → Header → Type
 AnswersQuery m aa tc rcode h = IsResponseHeader (number16 m 0) (slice_index m 2) aa tc rcode h
 
 -- What a message holds that answers the question q of the query m from the zone z, and its header: the sections of the
--- one outcome, whole or with TC up to the first required RRset that doesn't fit. Or none of them, with TC, where they
--- leave no room for the OPT record.
+-- one chain of questions, whole or with TC up to the first required RRset that doesn't fit. Or none of them, with TC,
+-- where they leave no room for the OPT record. AA is that of the first question, and the response code that of the
+-- last.
 pub record IsAnswered (compresses : Bool) (z : Zone) (class limit capacity : ℕ) (opt : Option Opt) (m : List ℕ) (q : QuestionFields) (header : Header) (it : Content) : Type 0 where
-  pub outcome : Outcome
-  pub answers : Answers z q.name q.rtype outcome
+  pub first : Outcome
+  pub last : Outcome
   pub all : Sections
-  pub are_all : AreSections z q.name outcome all
+  pub follows : Follows z q.name q.rtype first last all
   pub whole : Bool
   pub answer : List RRset
   pub authority : List RRset
   pub additional : List RRset
   pub old : State
   pub begun : IsBegun compresses limit (opt_len opt) q old
-  pub kept : Keeps compresses class (cut_of outcome) all opt capacity old whole answer authority additional
+  pub kept : Keeps compresses class (cut_of last) all opt capacity old whole answer authority additional
   pub aa : Bool
-  pub aa_is : IsTrue aa ↔ HasAuthority outcome
-  pub header_is : AnswersQuery m aa (not whole) (response_code outcome) header
+  pub aa_is : IsTrue aa ↔ HasAuthority first
+  pub header_is : AnswersQuery m aa (not whole) (response_code last) header
   pub content : it ≡ holding class (only_question q) answer authority additional
 
 -- These are the first question of the query, or none where it has none.

@@ -8,8 +8,8 @@ use Rattle.domain_message_builder.specs.Contents.{PushedRecord}
 use Rattle.domain_message_builder.specs.declared.builder.MessageBuilder.{MessageBuilder}
 use Rattle.domain_name.specs.Names.{name_labels}
 use Rattle.domain_zone_answer.specs.Sections.{Sections}
-use Rattle.domain_zone_answer.specs.Views.{section_view}
-use Rattle.domain_zone_answer.specs.declared.section.SectionRrset.{SectionRrset}
+use Rattle.domain_zone_chain.specs.Views.{answer_view}
+use Rattle.domain_zone_chain.specs.declared.answer.AnswerRrset.{AnswerRrset}
 use Rattle.domain_zone_laws.specs.Zone.{RRset}
 use Rattle.domain_zone_response.specs.Included.{Parts, Puts}
 use Rattle.domain_zone_response.specs.Pushing.{Gains, Fills, CannotAdd, DoesNotFit, StopsAt, Stops}
@@ -24,8 +24,8 @@ headed_record h d = record {
 }
 
 -- the RRsets as sections have them
-abbrev pub set_views : List SectionRrset → List RRset
-set_views xs = map section_view xs
+abbrev pub set_views : List AnswerRrset → List RRset
+set_views xs = map answer_view xs
 
 -- The addresses xs: those that are required first, and how many these are.
 pub record IsGlue (cut : List (List ℕ)) (xs : List RRset) (it : Glue) : Type 0 where

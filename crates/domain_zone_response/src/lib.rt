@@ -9,6 +9,7 @@ mod query;
 mod respond;
 mod rrset;
 mod sections;
+mod sets;
 
 pub use edns::{Server, Transport};
 pub use error::ResponseError;

@@ -28,6 +28,7 @@ use domain_rdata::Composer;
 use domain_traits::ToName;
 use domain_zone::Zone;
 use domain_zone_answer::respond;
+use domain_zone_chain::{follow, names_of, respond_along};
 use std::alloc::Global;
 
 /// Pushes the OPT record, if there is one, and finishes the message.
@@ -152,12 +153,23 @@ fn answer_from<Target: Composer + Drop>(
         return Err(ResponseError::NoRoom);
     }
     let name = qname.for_slice();
-    let response = respond(zone, &name, question.qtype().to_int());
+    let rtype = question.qtype().to_int();
+    let first = respond(zone, &name, rtype);
+    let aa = first.is_authoritative();
+    let Ok(names) = follow(alloc, zone, &name, rtype, first.outcome()) else {
+        return Err(ResponseError::Memory);
+    };
+    let Ok(views) = names_of(alloc, names.as_slice()) else {
+        return Err(ResponseError::Memory);
+    };
+    let Ok(response) = respond_along(alloc, zone, rtype, first, views.as_slice()) else {
+        return Err(ResponseError::Memory);
+    };
     let Ok(whole) = push_sections(alloc, message, zone.class(), &response) else {
         return Err(ResponseError::Memory);
     };
     let verdict = Verdict {
-        aa: response.is_authoritative(),
+        aa,
         tc: !whole,
         rcode: response.rcode(),
     };

@@ -2,17 +2,18 @@
 ghost use Rattle.std.specs.Prelude.{◌≡◌, ◌≤◌, ◌∷◌, [], IsTrue, IsFalse};
 ghost use Rattle.domain_header.specs.Values.{class_number};
 ghost use Rattle.domain_message_builder.specs.Builders.{state, target_room};
-ghost use Rattle.domain_zone_answer.specs.Views.{section_view, section_list};
+ghost use Rattle.domain_zone_answer.specs.Views.{section_view, section_list, cname_view};
 ghost use Rattle.domain_zone_response.specs.Pushing.{record_of, records_of, all_records};
 ghost use Rattle.domain_zone_response.specs.Views.{headed_record, GainsRecords, GainsSome, FillsRecords};
 ghost use Rattle.domain_zone_response.specs.Views.{RecordCannotBeAdded, RrsetDoesNotFit, StopsPushing};
 
 use domain_header::{Class, Ttl};
+use domain_list::composing::put_name;
 use domain_message::{Record, Section};
 use domain_message_builder::MessageBuilder;
 use domain_name::Name;
 use domain_rdata::{Composer, Rtype, UnknownRecordData};
-use domain_zone_answer::SectionRrset;
+use domain_zone_answer::{SectionRrset, SynthesizedCname};
 
 /// What a record has before its data.
 #[derive(Clone, Copy)]
@@ -87,6 +88,32 @@ pub(crate) fn push_rrset<Target: Composer>(
         }
     }
     true
+}
+
+/// Pushes the CNAME that a DNAME makes. Returns whether it was pushed.
+pub(crate) fn push_cname<Target: Composer>(
+    message: &mut MessageBuilder<Target>,
+    section: Section,
+    class: Class,
+    cname: SynthesizedCname<'_>,
+) -> bool
+    ensures pushed { IsTrue result → GainsRecords section
+        (records_of (class_number class) (cname_view cname.entry)) message.old message.new }
+    ensures some { GainsSome section message.old message.new }
+    ensures why { IsFalse result → RrsetDoesNotFit section (class_number class)
+        (cname_view cname.entry) message.old }
+    ensures capacity { target_room message.old ≤ target_room message.new }
+{
+    let target = cname.target();
+    let mut octets = [0; 255];
+    let len = put_name(&target, &mut octets);
+    let head = Head {
+        owner: cname.owner(),
+        rtype: 5,
+        class,
+        ttl: cname.ttl(),
+    };
+    push_record(message, section, head, &octets[..len])
 }
 
 /// Pushes an RRset, if there is one, as the first of its section, whole or not at all. Returns whether none was left

@@ -1,7 +1,7 @@
 use Rattle.std.proofs.Common.{sym, ap, ◌∙◌, ◌++◌, length, true≢false}
 use Rattle.std.proofs.lemmas.List.{map-append, length-map}
 use Rattle.domain_zone_answer.specs.AddressViews.{addresses_left}
-use Rattle.domain_zone_answer.specs.Views.{section_view}
+use Rattle.domain_zone_chain.specs.Views.{answer_view}
 use Rattle.domain_zone_response.specs.Included.{cut_of}
 use Rattle.domain_zone_response.specs.Views.{set_views}
 use Rattle.domain_zone_response.proofs.Parting.{takes_required, takes_other, ends, ends_as, set_more}
@@ -20,6 +20,6 @@ returns c = record {
   ys = set_views c.loop-set.sets.items;
   zs = set_views c.loop-set.others.items;
   parts = ends _ _ (addresses_left c.loop-set.addresses) _ _ c.in_default.ensures.steps.0 c.loop-set.invariant.1;
-  sets = ap set_views c.in_ok-extend_from_slice.ensures.items ∙ (map-append section_view _ _ ∙ ap (λ l. set_views c.loop-set.sets.items ++ set_views l) c.as_slice.ensures.value);
-  required = ap length c.as_slice-required.ensures.value ∙ sym (length-map c.loop-set.sets.items section_view);
+  sets = ap set_views c.in_ok-extend_from_slice.ensures.items ∙ (map-append answer_view _ _ ∙ ap (λ l. set_views c.loop-set.sets.items ++ set_views l) c.as_slice.ensures.value);
+  required = ap length c.as_slice-required.ensures.value ∙ sym (length-map c.loop-set.sets.items answer_view);
 }

@@ -1,15 +1,14 @@
-use Rattle.std.proofs.Common.{◌++◌, refl, sym, ap, ◌∙◌}
-use Rattle.domain_zone_answer.specs.Views.{section_list}
-use Rattle.domain_zone_response.proofs.Growing.{stops_longer, stops_last, both_ok}
+use Rattle.std.proofs.Common.{arith}
+use Rattle.std.proofs.lemmas.List.{length-map}
+use Rattle.domain_zone_chain.specs.Views.{answer_view}
+use Rattle.domain_zone_response.specs.Views.{set_views}
+use Rattle.domain_zone_response.proofs.Growing.{fills_whole, stops_part}
 use Rattle.domain_zone_response.proofs.sections.push_answers.Goals as goal
 
-pub returns-then-not-push_first-clause-stops : goal.returns-then-not-push_first-clause-stops
-returns-then-not-push_first-clause-stops g c refused =
-    stops_longer _ _ _ _ _ _ _ _ _ (sym c.answer-first.ensures) (c.if-not-push_first.ensures.stops refl)
+pub returns-then-count-all-clause-stops : goal.returns-then-count-all-clause-stops
+returns-then-count-all-clause-stops g c part =
+    stops_part _ _ _ (set_views c.args.answers.now) _ _ _ _ (c.push_most-count.ensures.stops c.if-count-all.true) c.push_most-count.ensures.fills
 
-pub returns-in-Some-clause-stops : goal.returns-in-Some-clause-stops
-returns-in-Some-clause-stops g c =
-    both_ok c.push_cname.result _ _ _ c.push_cname.ensures.refused c.push_cname.ensures.why
-    (λ done same why refused. stops_last _ _ _ (section_list c.answer-first.result) _ _ _ _ _ _ _
-    (sym c.answer-first.ensures ∙ ap (λ l. section_list c.answer-first.result ++ l) (sym c.in-Some.ensures))
-    (c.if-not-push_first.ensures.pushed refl) c.push_first.ensures.capacity (why refused) (same refused))
+pub returns-clause-pushed : goal.returns-clause-pushed
+returns-clause-pushed g c whole =
+    fills_whole _ _ _ (set_views c.args.answers.now) _ _ _ (omega (arith, c.if-count-all.false, length-map c.args.answers.now answer_view)) c.push_most-count.ensures.fills

@@ -1,0 +1,7 @@
+mod Among
+pub mod Calling
+mod Evaluating
+mod Joining
+mod Leading
+mod OneChain
+mod Repeating

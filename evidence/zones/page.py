@@ -1,0 +1,95 @@
+"""The page of a run of beside_servers.py."""
+
+import datetime
+import textwrap
+
+from differences import REASONS
+from zone import FORMS
+
+INTRO = [
+    "`evidence/zones/beside_servers.py` loads zones into name servers on loopback, and sends them and `dnszone` the "
+    "same queries. It wrote this page on {day}. {program}",
+    "The zones are {texts} texts ([texts.py](texts.py)): those of RFC 4592, 2.2.1, and RFC 1034, 6.1, some for each "
+    "rule of a lookup, one that is signed, and four that are drawn from fixed seeds. To these come the first "
+    "{cases:,} zones of the conformance table "
+    "([conformance_zones](../../crates/conformance_zones/README.md)), with the questions there. "
+    "Of these the run left out {left}: the data of an NS record there is no name, and no server loads them.",
+    "Each of the {questions:,} questions is sent in {forms} forms: {titles}. Compared are the response code of twelve "
+    "bits, the identifier, the opcode and all flags, TC, the question with the case of its letters, the OPT record, "
+    "and the answer, authority and additional sections as sets of records: owner, TTL, type and data. Case is ignored "
+    "in names of records (RFC 4343, 3). A response is equal, or differs in ways that are listed below with their "
+    "reasons, or fails.",
+    "{ask}",
+    "The servers are set alike where they let it: the fewest records in a response, 1,232 octets in a datagram as "
+    "`dnszone` has it, no limit of rate and no cookies.",
+]
+ASK = (
+    "What `dnszone ask` prints for the {asks:,} questions about the texts must be the sections, the response code and "
+    "AA of `dnszone answer --stream`."
+)
+KINDS = {
+    "built": "",
+    "unproved": "The program was a build of these sources without their proofs (`rt try`).",
+    "second": "In this run the second writer of responses "
+    "([conformance_responses](../../crates/conformance_responses/README.md)) answered in place of the program: "
+    "`evidence/responses/check.py` compares the two octet by octet. It knows no backslash in names, so the zone of "
+    "special characters was left out.",
+}
+LIMITS = [
+    "Zones with NSEC3 records: `dnszone` refuses that type "
+    "([domain_zone](../../crates/domain_zone/README.md#faults)). The signed zone has NSEC.",
+    "Wildcards that own NS or DNAME, which `dnszone` refuses (RFC 4592, 4.2 and 4.4).",
+    "Text that one of the four refuses: relative names in data and TTLs with units in an SOA (`dnszone`), the end of "
+    "a line between quotes (BIND), a name that ends in `\\\\` (NSD).",
+    "Queries that aren't a question of class IN to a zone: what comes of these is in "
+    "[conformance_responses](../../crates/conformance_responses/README.md).",
+    "The order of records and RRsets, and which names are compressed.",
+]
+
+
+def wrapped(text, mark=""):
+    return textwrap.wrap(text, 118, initial_indent=mark, subsequent_indent=" " * len(mark), break_on_hyphens=False)
+
+
+def intro(zones, left, kind):
+    texts, asks = sum(it.is_text for it in zones), sum(len(it.asked) for it in zones if it.is_text)
+    said = {
+        "day": datetime.date.today(),
+        "program": KINDS[kind],
+        "texts": texts,
+        "cases": len(zones) - texts + left,
+        "left": left,
+        "questions": sum(len(it.asked) for it in zones),
+        "ask": "" if kind == "second" else ASK.format(asks=asks),
+        "forms": len(FORMS),
+        "titles": "; ".join(it.title for it in FORMS),
+    }
+    for it in filter(None, (it.format(**said) for it in INTRO)):
+        yield ""
+        yield from wrapped(it)
+
+
+def table(trial, versions):
+    yield from ["", "| Server | Responses | Equal | Listed differences | Not listed | Zones not loaded |"]
+    yield "|---|--:|--:|--:|--:|--:|"
+    for server, it in trial.counts.items():
+        counts = [it[one] for one in ("equal", "listed", "unlisted")]
+        counts = [sum(counts), *counts, it["zones listed"] + it["zones unlisted"]]
+        yield f"| {versions[server]} (`{server}`) | {' | '.join(f'{count:,}' for count in counts)} |"
+
+
+def page(trial, zones, left, versions, kind):
+    yield "# dnszone beside name servers"
+    yield from intro(zones, left, kind)
+    yield from table(trial, versions)
+    yield from ["", "## Differences", ""]
+    for why in filter(trial.examples.get, REASONS):
+        counts = ", ".join(f"{server} {it[why]:,}" for server, it in trial.counts.items() if it[why])
+        yield from wrapped(f"{why} ({counts}; for example {trial.examples[why]})", "- ")
+    if trial.unlisted:
+        yield from ["", "## Not listed, so the run failed", ""]
+    for it in trial.unlisted[:50]:
+        yield from wrapped(f"`{it}`", "- ")
+    yield from ["", "## What isn't compared", ""]
+    for it in LIMITS:
+        yield from wrapped(it, "- ")
