@@ -15,10 +15,10 @@ pub returns-in_ok-put_line-in-Ok-clause-written : goal.returns-in_ok-put_line-in
 returns-in_ok-put_line-in-Ok-clause-written g c =
     let it = record_fields c.args.found.now in
     let found = data_of c.in-Ok.rdata in
-    (line_text it (rdata_text found), typed_line it _ _ found c.data-data.ensures.message c.data-data.ensures.offset (λ is. false≢true (c.if-is_bare.ensures.1 is)) c.in-Ok.ensures.ok c.in-Ok.ensures.whole, c.in_ok-put_line-in-Ok.ensures.taken)
+    (line_text it (rdata_text found), typed_line it _ _ _ _ found c.rtype.ensures c.class.ensures c.data-data.ensures.message c.data-data.ensures.offset (λ is. false≢true (c.if-is_bare.ensures.1 is)) c.in-Ok.ensures.ok c.in-Ok.ensures.whole, c.in_ok-put_line-in-Ok.ensures.taken)
 
 pub returns-in_ok-put_line-in-Err-clause-written : goal.returns-in_ok-put_line-in-Err-clause-written
 returns-in_ok-put_line-in-Err-clause-written g c =
     let it = record_fields c.args.found.now in
     let why = c.in-Err.why in
-    (unread_text it why, unread_line it _ _ why c.data-data.ensures.message c.data-data.ensures.offset (λ is. false≢true (c.if-is_bare.ensures.1 is)) c.in-Err.ensures.err, c.in_ok-put_line-in-Err.ensures.taken)
+    (unread_text it why, unread_line it _ _ _ _ why c.rtype.ensures c.class.ensures c.data-data.ensures.message c.data-data.ensures.offset (λ is. false≢true (c.if-is_bare.ensures.1 is)) c.in-Err.ensures.err, c.in_ok-put_line-in-Err.ensures.taken)
