@@ -472,8 +472,8 @@ dnsnames_status dnsnames_data_option(const uint8_t *message, size_t message_len,
  *     ;; ADDITIONAL SECTION
  *     ; EDNS: version: 0, flags: do; udp: 1232
  *
- * An owner, and the name of a question, is as in a zone: ; " ( ) @ and $ have a backslash before them, too. Where octets
- * follow the last record, a last line says how many, as "; trailing octets: 4".
+ * Names are as in a zone: ; " ( ) @ and $ have a backslash before them, too. Where octets follow the last record, a last
+ * line says how many, as "; trailing octets: 4".
  *
  * Data that can't be read by their type are shown as octets (RFC 3597, 5), with the reason behind them. Names that pointers
  * lead to are written out, so a message of 65,535 octets can be made whose text has more than nine million.

@@ -322,8 +322,8 @@ export class DnsNames {
     }
 
     /** The text of a message as dig writes it: two lines of its header, and for each section its heading and a line for each
-     *  question or record. Data that can't be read by their type are shown as octets, and why (RFC 3597, 5). Owners and names
-     *  of questions are as in a zone: ; " ( ) @ and $ have a backslash before them, too. A last line says how many octets
+     *  question or record. Data that can't be read by their type are shown as octets, and why (RFC 3597, 5). Names
+     *  are as in a zone: ; " ( ) @ and $ have a backslash before them, too. A last line says how many octets
      *  follow the last record, if any do. ShortInput where the message ends before all that its header counts, BadForm where
      *  an entry hasn't the form of one: `shown` is then the text of what stands before. */
     messageText(message) {

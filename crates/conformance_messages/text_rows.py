@@ -441,8 +441,8 @@ def shown_rows(lines, answers):
         elif rtype not in FORMS:
             row(rtype, text)
         else:
-            # In a name a quote and a semicolon stand for themselves as it is shown, and not as it is read.
-            is_plain = "n" not in FORMS[rtype] or not set(text) & set('";')
+            # In a name of `typed` a quote and a semicolon stand for themselves as it is shown, and not as it is read.
+            is_plain = word == "any" or "n" not in FORMS[rtype] or not set(text) & set('";')
             row(rtype, text, octets if is_plain else None)
 
 

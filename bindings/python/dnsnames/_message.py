@@ -334,9 +334,9 @@ class Message:
 
     def to_text(self) -> str:
         """The message as `dig` shows it: two lines of its header, and for each section its heading and a line for each
-        question or record. Data that can't be read by their type are shown as octets, and why (RFC 3597, 5). Owners and
-        names of questions are as in a zone: `;` `"` `(` `)` `@` `$` have a backslash before them, too. A last line says
-        how many octets follow the last record, if any do. Raises ShortInput where the message ends before all that its
+        question or record. Data that can't be read by their type are shown as octets, and why (RFC 3597, 5). Names
+        are as in a zone: `;` `"` `(` `)` `@` `$` have a backslash before them, too. A last line says how many octets
+        follow the last record, if any do. Raises ShortInput where the message ends before all that its
         header counts, BadForm where an entry hasn't the form of one: `shown` of the error is the text of all before that.
 
         >>> try:

@@ -158,8 +158,8 @@ impl<'a> Message<'a> {
 
     /// The text of the message as `dig` writes it, in the buffer: two lines of its header, and for each section its
     /// heading and a line for each question or record. Data that can't be read by their type are shown as octets, and why
-    /// (RFC 3597, 5). Owners and names of questions are as in a zone: `;` `"` `(` `)` `@` `$` have a backslash before
-    /// them, too. A last line says how many octets follow the last record, if any do.
+    /// (RFC 3597, 5). Names are as in a zone: `;` `"` `(` `)` `@` `$` have a backslash before them, too. A last line says
+    /// how many octets follow the last record, if any do.
     ///
     /// `NoRoom` has how many octets it is. `ShortInput` where the message ends before all that its header counts,
     /// `BadForm` where an entry hasn't the form of one.
