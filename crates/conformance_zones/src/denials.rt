@@ -4,7 +4,7 @@ use crate::fields::name_of;
 use crate::zones::{put_rrset, zone_of};
 use conformance_labels::{Answer, is, number_up_to, split_once};
 use domain_zone::{Owner, Zone};
-use domain_zone_denial::{Denial, denial};
+use domain_zone_denial::{Denial, denial_for};
 use domain_zone_laws::zone::Rrset;
 
 /// `denial APEX RECORDS QUESTIONS`
@@ -28,7 +28,7 @@ pub fn put_denials(out: &Answer, apex: &[u8], records: &[u8], questions: &[u8]) 
 fn put_denial(out: &Answer, zone: &Zone, name: &Owner, rtype: u16) {
     let asked = name.for_slice();
     let answer = zone.lookup(&asked, rtype);
-    let Denial { first, second } = denial(zone, &asked, &answer);
+    let Denial { first, second } = denial_for(zone, &asked, &answer);
     out.put(b";");
     let before = put_set(out, b" ", first);
     let before = put_set(out, before, second);

@@ -135,7 +135,7 @@ fn denial_synthesized<'z>(
 ///
 /// A response to a query with the DO bit has them, and the RRSIG records that cover them, in its authority section.
 /// They are NSEC RRsets; for a referral the DS RRset of the cut, if it has one. It allocates nothing.
-pub fn denial<'z>(zone: &'z Zone, name: &Name<&[u8]>, answer: &Answer<'_>) -> Denial<'z>
+pub fn denial_for<'z>(zone: &'z Zone, name: &Name<&[u8]>, answer: &Answer<'_>) -> Denial<'z>
     requires { (t : ℕ) × Answers (zone_view zone.now) (name_labels name.now) t
         (outcome_of answer.now) }
     ensures { DeniesFor (zone_view zone.now) (name_labels name.now) (outcome_of answer.now)

@@ -6,6 +6,6 @@ mod encloser;
 mod laws;
 mod nsec;
 
-pub use denial::{Denial, denial};
+pub use denial::{Denial, denial_for};
 pub use laws::{chain_laws, denial_laws};
 pub use nsec::nsec_for;

@@ -3,7 +3,7 @@ use Rattle.domain_name.specs.Names.{name_labels}
 use Rattle.domain_zone.specs.Kept.{zone_view}
 use Rattle.domain_zone.specs.Outcomes.{outcome_of}
 use Rattle.domain_zone_laws.specs.Answers.{Answers}
-use Rattle.domain_zone_denial.proofs.denial.denial.Goals as goal
+use Rattle.domain_zone_denial.proofs.denial.denial_for.Goals as goal
 
 pub with_source-requires-clause-inside : goal.with_source-requires-clause-inside
 with_source-requires-clause-inside c =
