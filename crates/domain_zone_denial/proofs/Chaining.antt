@@ -1,12 +1,12 @@
 -- Which names are in the chain, and which of them is the last up to a name.
-use Rattle.std.proofs.Common.{◌≡◌, ℕ, ◌⊎◌, List, refl, sym, ap, ◌∙◌, subst, inl, inr, ⊎_elim}
+use Rattle.std.proofs.Common.{◌≡◌, refl, sym, ◌∙◌, inl, inr, ⊎_elim}
 use Rattle.std.specs.List.{Contains}
 use Rattle.std.proofs.lemmas.List.Elements.{All-contains}
 use Rattle.domain_label.specs.Wire.{IsAbsoluteName}
 use Rattle.domain_list.specs.Ends.{EndsWith}
 use Rattle.domain_list.specs.Order.{SameLabels}
 use Rattle.domain_zone_laws.specs.Zone.{Zone, RRset, IsZone, NS, NSEC, IsAt, OwnsRecords, Exists, IsCut, IsFirstCut, HasNoCut}
-use Rattle.domain_zone_laws.proofs.Ending.{same_ends, ends_itself, ends_after, ends_same, same_then, both_ends, ends_linear}
+use Rattle.domain_zone_laws.proofs.Ending.{same_ends, ends_after, same_then, both_ends, ends_linear}
 use Rattle.domain_zone_laws.proofs.Nodes.{at_same, owns_same, owns_of, first_cut}
 use Rattle.domain_zone_denial.proofs.Ordering.{Names, UpTo, IsBefore, before_up_to, same_up_to, itself_up_to, same_right, up_to_after, both_up_to, above_up_to, between_below, before_or_not}
 use Rattle.domain_zone_denial.specs.Denial.{IsInChain, IsLastUpTo, IsNsecFor}

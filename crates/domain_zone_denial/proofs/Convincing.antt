@@ -1,11 +1,11 @@
 -- Where the NSEC records are a chain, the RRsets for an outcome show it.
-use Rattle.std.proofs.Common.{◌≡◌, ℕ, ◌⊎◌, List, [], ◌∷◌, ◌++◌, refl, sym, ap, ◌∙◌, subst, arith, inl, inr, ⊎_elim}
+use Rattle.std.proofs.Common.{◌≡◌, ℕ, ◌⊎◌, List, [], ◌∷◌, refl, sym, subst, arith, inl, inr, ⊎_elim}
 use Rattle.std.specs.List.{Contains}
 use Rattle.std.proofs.lemmas.List.Elements.{Contains-append_left, Contains-append_right}
 use Rattle.domain_list.specs.Ends.{EndsWith}
 use Rattle.domain_list.specs.Order.{SameLabels}
-use Rattle.domain_zone_laws.specs.Answers.{Reply, records, any_types, alias, no_data, Outcome, out_of_zone, referral, found, redirect, too_long, synthesized, name_error, IsReferred, IsAuthoritative, IsNonexistent}
-use Rattle.domain_zone_laws.specs.Zone.{Zone, RRset, IsZone, DNAME, DS, NSEC, IsAt, HasType, OwnsRecords, Exists, IsClosestEncloser, source_of_synthesis}
+use Rattle.domain_zone_laws.specs.Answers.{Reply, records, any_types, alias, no_data, out_of_zone, referral, found, redirect, too_long, synthesized, name_error, IsReferred, IsAuthoritative, IsNonexistent}
+use Rattle.domain_zone_laws.specs.Zone.{Zone, RRset, IsZone, DNAME, NSEC, IsAt, HasType, OwnsRecords, Exists, IsClosestEncloser, source_of_synthesis}
 use Rattle.domain_zone_laws.proofs.Ending.{ends_after, ends_below}
 use Rattle.domain_zone_laws.proofs.Nodes.{has_same, owns_same, exists_same, dec_owns, one_encloser}
 use Rattle.domain_zone_laws.proofs.Total.{source_same}
@@ -15,7 +15,7 @@ use Rattle.domain_zone_denial.proofs.Lasting.{some_nsec}
 use Rattle.domain_zone_denial.proofs.Ordering.{Names}
 use Rattle.domain_zone_denial.proofs.Plain.{IsPlain, plain_missing, plain_empty, chain_found, plain_above, plain_source, chain_source}
 use Rattle.domain_zone_denial.specs.Chain.{HasNsecChain, ShowsNoName, ShowsTypes, SomeShowsNoName, SomeShowsTypes, ConvincesAt, ConvincesBeside, Convinces}
-use Rattle.domain_zone_denial.specs.Denial.{IsInChain, IsNsecFor, AreNsecFor, AreOnce, AreNsecsFor, AreAt, AreOfCut, DeniesAt, DeniesBeside}
+use Rattle.domain_zone_denial.specs.Denial.{IsInChain, IsNsecFor, AreNsecFor, AreOnce, AreNsecsFor, AreOfCut, DeniesAt, DeniesBeside}
 use Rattle.domain_zone_denial.specs.Laws.{DenialConvinces}
 
 only : (s : RRset) (xs : List RRset) → xs ≡ s ∷ [] → Contains xs s

@@ -1,14 +1,13 @@
 -- Which names an NSEC RRset of a chain covers, by its place in the zone and by its owner and its next name.
-use Rattle.std.proofs.Common.{◌≡◌, ℕ, ◌⊎◌, ◌↔◌, List, refl, sym, ap, ◌∙◌, subst, inl, inr, ⊎_elim}
+use Rattle.std.proofs.Common.{◌⊎◌, ◌↔◌, sym, inl, inr, ⊎_elim}
 use Rattle.domain_list.specs.Ends.{EndsWith}
-use Rattle.domain_list.specs.Order.{canonical_order, SameLabels}
-use Rattle.std.specs.declared.cmp.Ordering.TheVariants.{Less}
+use Rattle.domain_list.specs.Order.{SameLabels}
 use Rattle.domain_zone_laws.specs.Zone.{Zone, RRset, IsZone, NSEC, IsAt, Exists, OwnsRecords, IsCut, IsFirstCut}
 use Rattle.domain_zone_laws.proofs.Ending.{ends_same}
 use Rattle.domain_zone_laws.proofs.Nodes.{cut_same, first_cut}
 use Rattle.domain_zone_denial.proofs.Chaining.{owner_inside, in_chain_same, first_in_chain, chain_below}
 use Rattle.domain_zone_denial.proofs.Ordering.{Names, UpTo, IsBefore, before_or_not, before_up_to, not_both, not_less, same_up_to, itself_up_to, up_to_after, before_then_up_to, before_if_not_same, above_up_to, between_below}
-use Rattle.domain_zone_denial.specs.Chain.{HasNsecChain, IsNextName, IsNext, Covers, IsAncestorDelegation, ShowsNoRecords, ShowsNoName}
+use Rattle.domain_zone_denial.specs.Chain.{HasNsecChain, Covers, ShowsNoRecords, ShowsNoName}
 use Rattle.domain_zone_denial.specs.Denial.{IsInChain, IsLastUpTo, IsNsecFor}
 use Rattle.domain_zone_denial.specs.Laws.{CoversByFields, ShownIsSo}
 

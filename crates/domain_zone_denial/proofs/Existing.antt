@@ -1,5 +1,5 @@
 -- There are RRsets for each outcome.
-use Rattle.std.proofs.Common.{◌≡◌, ℕ, List, [], ◌∷◌, ◌++◌, refl, sym, inl, inr}
+use Rattle.std.proofs.Common.{ℕ, List, [], ◌∷◌, ◌++◌, refl, inl, inr}
 use Rattle.domain_list.specs.Ends.{EndsWith}
 use Rattle.domain_zone_laws.specs.Answers.{Reply, records, any_types, alias, no_data, Outcome, out_of_zone, referral, found, redirect, too_long, synthesized, name_error, Answers}
 use Rattle.domain_zone_laws.specs.Zone.{Zone, RRset, IsZone, DS, NSEC, IsClosestEncloser, source_of_synthesis}

@@ -1,10 +1,9 @@
 -- Each name in a zone has a last name in the chain up to it.
-use Rattle.std.proofs.Common.{◌≡◌, ℕ, ◌⊎◌, List, [], ◌∷◌, sym, ap, ◌∙◌, subst, refl, inl, inr, arith, ⊎_elim}
+use Rattle.std.proofs.Common.{◌≡◌, ◌⊎◌, List, [], ◌∷◌, sym, ◌∙◌, subst, refl, inl, inr, arith, ⊎_elim}
 use Rattle.std.specs.List.{Contains}
 use Rattle.std.proofs.lemmas.List.Elements.{Contains-append_left, Contains-append_right, Contains-append_cases}
 use Rattle.domain_list.specs.Ends.{EndsWith}
-use Rattle.domain_list.specs.Order.{SameLabels}
-use Rattle.domain_zone_laws.specs.Zone.{Zone, RRset, IsZone, NSEC, IsCut, IsFirstCut, HasNoCut, OwnsRecords}
+use Rattle.domain_zone_laws.specs.Zone.{Zone, RRset, IsZone, OwnsRecords}
 use Rattle.domain_zone_laws.proofs.Deciding.{Decided, dec_same, dec_and, only_one}
 use Rattle.domain_zone_laws.proofs.Ending.{ends_same, both_ends}
 use Rattle.domain_zone_laws.proofs.Nodes.{first_cut}

@@ -1,5 +1,5 @@
 -- No cut and no DNAME is above a name of which a zone denies something, so that the NSEC records tell of it.
-use Rattle.std.proofs.Common.{◌≡◌, ℕ, ◌⊎◌, List, [], ◌∷◌, sym, ◌∙◌, inl, inr, ⊎_elim}
+use Rattle.std.proofs.Common.{◌≡◌, ℕ, ◌⊎◌, [], ◌∷◌, sym, ◌∙◌, inl, inr, ⊎_elim}
 use Rattle.domain_list.specs.Ends.{EndsWith}
 use Rattle.domain_list.specs.Order.{SameLabels}
 use Rattle.domain_zone_laws.specs.Answers.{IsReferred, IsAuthoritative, IsNonexistent}
@@ -10,7 +10,6 @@ use Rattle.domain_zone_laws.proofs.Nodes.{at_same, has_same, owns_same, owns_of,
 use Rattle.domain_zone_laws.proofs.Total.{first_cut_same}
 use Rattle.domain_zone_denial.proofs.Chaining.{owner_exists}
 use Rattle.domain_zone_denial.proofs.Ordering.{Names}
-use Rattle.domain_zone_denial.specs.Chain.{IsAncestorDelegation}
 use Rattle.domain_zone_denial.specs.Denial.{IsInChain}
 
 -- neither a cut nor a DNAME is at n or above it

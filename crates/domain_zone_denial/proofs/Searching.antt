@@ -1,27 +1,24 @@
 -- The last name in the chain up to a name, found from the RRset before it.
-use Rattle.std.proofs.Common.{◌≡◌, ℕ, ◌-◌, ◌<◌, ◌≤◌, ◌⊎◌, List, [], ◌∷◌, length, slice_index_or, Option, Some, None, MatchOption, refl, sym, ap, ◌∙◌, subst, arith, inl, inr, ⊎_elim}
+use Rattle.std.proofs.Common.{◌≡◌, ℕ, ◌-◌, ◌<◌, ◌≤◌, length, slice_index_or, Option, Some, None, MatchOption, refl, sym, ap, ◌∙◌, subst, arith, inl, inr, ⊎_elim}
 use Rattle.std.specs.Borrow.{Bor}
-use Rattle.std.specs.List.{Contains}
 use Rattle.std.proofs.Math.Nat.{eq-or-lt_of_le}
-use Rattle.std.proofs.lemmas.List.{get_or_default}
-use Rattle.std.proofs.lemmas.List.Elements.{Contains-get_or}
 use Rattle.octseq.specs.declared.octets.Octets.{Ghosts}
 use Rattle.domain_list.proofs.AncestorLaws.{tells_apart}
 use Rattle.domain_list.specs.Ends.{EndsWith}
-use Rattle.domain_list.specs.Order.{canonical_order, SameLabels}
+use Rattle.domain_list.specs.Order.{SameLabels}
 use Rattle.domain_name.specs.declared.absolute.Name.{Name}
 use Rattle.domain_zone.specs.declared.lookup.outcome.Answer.{Answer}
 use Rattle.domain_zone.specs.declared.lookup.outcome.Answer.TheVariants as variants
 use Rattle.domain_zone.specs.Outcomes.{outcome_of}
 use Rattle.domain_zone.specs.Records.{set_view}
 use Rattle.domain_zone.proofs.Owned.{small_types}
-use Rattle.domain_zone_laws.proofs.Nodes.{at_same, has_same, first_cut, one_cut}
+use Rattle.domain_zone_laws.proofs.Nodes.{at_same, first_cut, one_cut}
 use Rattle.domain_zone_laws.proofs.Total.{first_cut_same}
 use Rattle.domain_zone_laws.specs.Answers.{Answers, IsReferred}
 use Rattle.domain_zone_laws.specs.Sorted.{ComesBefore, IsSorted, IsPlace}
 use Rattle.domain_zone_laws.specs.Zone.{Zone, RRset, IsZone, NS, DS, NSEC, IsAt, HasType, OwnsRecords, IsFirstCut, HasNoCut}
 use Rattle.domain_zone_laws.specs.declared.zone.Rrset.{Rrset}
-use Rattle.domain_zone_denial.proofs.Chaining.{owner_inside, cut_or_self_in_chain, cut_or_self_above, some_cut_or_self, nsec_of_last, last_one}
+use Rattle.domain_zone_denial.proofs.Chaining.{cut_or_self_in_chain, cut_or_self_above, some_cut_or_self, nsec_of_last, last_one}
 use Rattle.domain_zone_denial.proofs.Ordering.{Names, UpTo, IsBefore, before_or_not, before_up_to, not_both, same_up_to, same_left, up_to_cases, up_to_after, above_up_to, between_below}
 use Rattle.domain_zone_denial.specs.Denial.{IsInChain, IsLastUpTo, IsNsecFor}
 use Rattle.domain_zone_denial.specs.Cuts.{IsCutOrSelf}

@@ -1,5 +1,5 @@
 -- The lists that were found, and the source of synthesis of a name that doesn't exist, which is a name.
-use Rattle.std.proofs.Common.{◌≡◌, ℕ, ◌+◌, ◌<◌, ◌≤◌, List, [], ◌∷◌, ◌++◌, length, Option, Some, None, MatchOption, refl, sym, ap, ◌∙◌, arith, inl, inr, length-append}
+use Rattle.std.proofs.Common.{◌≡◌, ℕ, ◌+◌, ◌<◌, ◌≤◌, List, [], ◌∷◌, ◌++◌, length, Option, Some, None, MatchOption, refl, sym, ap, arith, inl, inr, length-append}
 use Rattle.std.specs.Borrow.{Bor}
 use Rattle.std.specs.Char.{to_ascii_lowercase}
 use Rattle.std.proofs.lemmas.List.{length-map}
@@ -8,9 +8,7 @@ use Rattle.domain_label.specs.Lowercase.{lowercase, lowercase_labels}
 use Rattle.domain_label.specs.Wire.{wire, IsAbsolute, IsAbsoluteName}
 use Rattle.domain_list.proofs.SuffixBySize.{front_size}
 use Rattle.domain_list.specs.Chains.{before_root}
-use Rattle.domain_list.specs.Ends.{EndsWith}
 use Rattle.domain_list.specs.NameLaws.{before_absolute}
-use Rattle.domain_list.specs.Order.{SameLabels}
 use Rattle.domain_name.specs.declared.absolute.Name.{Name}
 use Rattle.domain_zone.specs.Records.{set_view}
 use Rattle.domain_zone_answer.specs.Sets.{set_list}

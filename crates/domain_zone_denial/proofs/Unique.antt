@@ -1,5 +1,5 @@
 -- The RRsets for an outcome are unique, and are of the zone.
-use Rattle.std.proofs.Common.{◌≡◌, ℕ, ◌≤◌, ◌⊎◌, List, [], ◌∷◌, ◌++◌, length, length-append, refl, sym, ap, ◌∙◌, subst, arith, inl, inr, ⊎_elim}
+use Rattle.std.proofs.Common.{◌≡◌, ℕ, ◌≤◌, ◌⊎◌, List, [], ◌∷◌, length, length-append, refl, sym, ap, ◌∙◌, subst, arith, inl, inr, ⊎_elim}
 use Rattle.std.specs.List.{Contains}
 use Rattle.std.proofs.lemmas.List.Elements.{Contains-append_cases}
 use Rattle.domain_list.specs.Order.{SameLabels}
@@ -10,7 +10,7 @@ use Rattle.domain_zone_laws.proofs.Nodes.{one_encloser}
 use Rattle.domain_zone_laws.proofs.Total.{source_same}
 use Rattle.domain_zone_denial.proofs.Chaining.{one_nsec, nsec_same}
 use Rattle.domain_zone_denial.proofs.Ordering.{Names}
-use Rattle.domain_zone_denial.specs.Denial.{IsNsecFor, AreNsecFor, AreOnce, AreNsecsFor, AreAt, AreOfCut, DeniesAt, DeniesBeside, DeniesFor}
+use Rattle.domain_zone_denial.specs.Denial.{AreNsecFor, AreOnce, AreNsecsFor, AreAt, AreOfCut, DeniesAt, DeniesBeside, DeniesFor}
 use Rattle.domain_zone_denial.specs.Laws.{IsOfZone}
 
 -- ---- one list

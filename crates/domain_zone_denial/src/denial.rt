@@ -32,7 +32,7 @@ pub struct Denial<'z> {
 
 /// Two RRsets, the second left out where it has the owner of the first.
 fn once<'z>(first: Option<&'z Rrset<Owner>>, second: Option<&'z Rrset<Owner>>) -> Denial<'z>
-    ensures { AreOnce (set_list first) (set_list second) (denial_list result) }
+    ensures { AreOnce (set_list first.entry) (set_list second.entry) (denial_list result) }
 {
     let Some(a) = first else {
         return Denial {
