@@ -6,7 +6,7 @@ use Rattle.domain_label.specs.Wire.{wire, labels_in, IsAbsoluteName, IsAbsoluteW
 use Rattle.domain_label.proofs.WireLaws.{wire_absolute}
 use Rattle.domain_flat.proofs.LabelsFromLeft.{absolute_once}
 use Rattle.domain_buffer.specs.declared.data.Shape.{Shape}
-use Rattle.domain_buffer.specs.Data.{Fields, whole, compressed_shape, IsSecond, IsNamed, IsNameFront, IsSecondFront}
+use Rattle.domain_buffer.specs.Data.{Fields, whole, compressed_shape, IsSecond, IsNamed, IsNameFront, IsSecondFront, HasNoSecondFront}
 
 -- The name that was found is the only one.
 pub front_of : (octets : List ℕ) (n : ℕ) (ls : List (List ℕ)) (rest : List ℕ) → IsAbsoluteName ls → octets ≡ wire ls ++ rest → n ≡ length (wire ls) → IsNameFront octets n
@@ -58,3 +58,14 @@ wrong_after rtype octets form k m names rest after known begin other end front s
     let size = second_size form.names rest f.second f.after m (second_of rtype form f known n) second tail in
     let left : after ≡ f.after = end ∙ after_first rest f.second f.after m tail size in
     wrong (ap length left ∙ (n.after ∙ ap (λ (s : Shape). s.after) (same_shape rtype form n.form known n.known)))
+
+-- After the first name there is neither nothing nor a name, as there should be, so they aren't such data.
+pub no_second : (rtype : ℕ) (octets : List ℕ) (form : Shape) (k : ℕ) (names rest : List ℕ) → compressed_shape rtype ≡ Some form → names ≡ drop form.before octets → rest ≡ drop k names → IsNameFront names k → HasNoSecondFront form.names rest
+    → (f : Fields) → IsNamed rtype f → whole f ≡ octets → ⊥
+no_second rtype octets form k names rest known begin other front none f n all =
+    let parts : names ≡ f.first ++ (f.second ++ f.after) = begin ∙ names_after rtype octets form f known n all in
+    let tail : rest ≡ f.second ++ f.after = other ∙ after_first names f.first (f.second ++ f.after) k parts (front.only f.first (f.second ++ f.after) n.first parts) in
+    elim (second_of rtype form f known n) [
+      | inl one ↦ none.0 one.0
+      | inr two ↦ none.1 two.0 f.second f.after two.1 tail
+    ]

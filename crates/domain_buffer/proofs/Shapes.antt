@@ -35,29 +35,17 @@ IsFew rtype = (length (known_fields rtype 1) ≤ 1024) × IsSmall (shape (known_
 
 few : (rtype : ℕ) → compresses_names rtype ≡ true → IsFew rtype
 few rtype is =
-    each_of IsFew rtype (2 ∷ 3 ∷ 4 ∷ 5 ∷ 6 ∷ 7 ∷ 8 ∷ 9 ∷ 12 ∷ 14 ∷ 15 ∷ []) is (
-      (omega arith, record { few_before = omega arith; few_after = omega arith }),
-      (omega arith, record { few_before = omega arith; few_after = omega arith }),
-      (omega arith, record { few_before = omega arith; few_after = omega arith }),
-      (omega arith, record { few_before = omega arith; few_after = omega arith }),
-      (omega arith, record { few_before = omega arith; few_after = omega arith }),
-      (omega arith, record { few_before = omega arith; few_after = omega arith }),
-      (omega arith, record { few_before = omega arith; few_after = omega arith }),
-      (omega arith, record { few_before = omega arith; few_after = omega arith }),
-      (omega arith, record { few_before = omega arith; few_after = omega arith }),
-      (omega arith, record { few_before = omega arith; few_after = omega arith }),
-      (omega arith, record { few_before = omega arith; few_after = omega arith }),
-      tt,
-    )
+    each_of IsFew rtype (2 ∷ 3 ∷ 4 ∷ 5 ∷ 6 ∷ 7 ∷ 8 ∷ 9 ∷ 12 ∷ 14 ∷ 15 ∷ []) is
+    ((omega arith, record { few_before = omega arith; few_after = omega arith }), ((omega arith, record { few_before = omega arith; few_after = omega arith }), ((omega arith, record { few_before = omega arith; few_after = omega arith }), ((omega arith, record { few_before = omega arith; few_after = omega arith }), ((omega arith, record { few_before = omega arith; few_after = omega arith }), ((omega arith, record { few_before = omega arith; few_after = omega arith }), ((omega arith, record { few_before = omega arith; few_after = omega arith }), ((omega arith, record { few_before = omega arith; few_after = omega arith }), ((omega arith, record { few_before = omega arith; few_after = omega arith }), ((omega arith, record { few_before = omega arith; few_after = omega arith }), ((omega arith, record { few_before = omega arith; few_after = omega arith }), tt)))))))))))
 
 -- where a test says that they may be
 pub few_fields : (rtype : ℕ) (told : Bool) (fields : List FieldKind) → told ≡ compresses_names rtype → told ≡ true → fields ≡ known_fields rtype 1 → length fields ≤ 1024
-few_fields rtype told fields is yes same = subst (λ (ks : List FieldKind). length ks ≤ 1024) (sym same) (few rtype (sym is ∙ yes)).0
+few_fields rtype told fields is so same = subst (λ (ks : List FieldKind). length ks ≤ 1024) (sym same) (few rtype (sym is ∙ so)).0
 
 pub small_shape : (rtype : ℕ) (told : Bool) (fields : List FieldKind) (it : Shape) → told ≡ compresses_names rtype → told ≡ true → fields ≡ known_fields rtype 1 → it ≡ shape fields → IsSmall it
-small_shape rtype told fields it is yes same made = subst IsSmall (sym (made ∙ ap shape same)) (few rtype (sym is ∙ yes)).1
+small_shape rtype told fields it is so same made = subst IsSmall (sym (made ∙ ap shape same)) (few rtype (sym is ∙ so)).1
 
 pub shape_known : (rtype : ℕ) (told : Bool) (fields : List FieldKind) (it : Shape) → told ≡ compresses_names rtype → told ≡ true → fields ≡ known_fields rtype 1 → it ≡ shape fields → Some it ≡ compressed_shape rtype
-shape_known rtype told fields it is yes same made =
+shape_known rtype told fields it is so same made =
     let here : Some it ≡ Some (shape (known_fields rtype 1)) = ap Some (made ∙ ap shape same) in
-    subst (λ b. Some it ≡ if b then Some (shape (known_fields rtype 1)) else None) (sym (sym is ∙ yes)) here
+    subst (λ b. Some it ≡ if b then Some (shape (known_fields rtype 1)) else None) (sym (sym is ∙ so)) here
