@@ -9,10 +9,7 @@ use domain_descriptor::{FieldKind, known_fields};
 fn are_strings(rtype: u16) -> bool
     ensures { IsTrue result ↔ AreStrings rtype }
 {
-    let [kind] = known_fields(rtype, CLASS_IN) else {
-        return false;
-    };
-    *kind == FieldKind::CharStrings
+    matches!(known_fields(rtype, CLASS_IN), [FieldKind::CharStrings])
 }
 
 /// The character string that octets begin with at an offset.
