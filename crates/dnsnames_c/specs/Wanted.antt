@@ -1,9 +1,8 @@
 -- Names, numbers and addresses in the data of records, by how many of them come before (RFC 1035, 3.3). The data are
 -- octets of the message from p on, so many, of class IN.
-use Rattle.std.specs.Prelude.{◌≡◌, ◌⊎◌, ℕ, ◌≤◌, ◌<◌, Bool, true, false, List, length, take, get_or}
+use Rattle.std.specs.Prelude.{◌≡◌, ℕ, ◌≤◌, ◌<◌, Bool, true, false, List, length, take, get_or}
 use Rattle.std.specs.List.{count_by}
 use Rattle.domain_descriptor.specs.Table.{known_fields}
-use Rattle.domain_descriptor.specs.declared.fault.DataFault.{DataFault}
 use Rattle.domain_descriptor.specs.declared.kind.FieldKind.{FieldKind}
 use Rattle.domain_descriptor.specs.declared.kind.FieldKind.TheVariants as kinds
 use Rattle.domain_descriptor.specs.declared.rdata.Field.{Field}
