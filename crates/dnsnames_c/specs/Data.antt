@@ -1,5 +1,5 @@
--- Names, numbers and addresses in the data of records (RFC 1035, 3.3 and 4.1.4). The data are octets of the message from
--- p on, so many, of class IN.
+-- Names, numbers and addresses in the data of records (RFC 1035, 3.3 and 4.1.4). The data are octets of the message
+-- from p on, so many, of class IN.
 use Rattle.std.specs.Prelude.{◌≡◌, ◌⊎◌, ℕ, ◌+◌, List, slice_range, Some, take}
 use Rattle.domain_descriptor.specs.Rdatas.{field_kind, field_message, field_begin, field_after}
 use Rattle.domain_descriptor.specs.Values.{number_in}
