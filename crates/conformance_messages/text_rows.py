@@ -152,6 +152,8 @@ def number_rows():
         row(65280, f"\\# {text} 00")
         row(A, f"\\# {text}")
     row(SOA, ". . 1h 2 3 4 5", err="4 Number")
+    for text, numbers in ((". . 1 1h 15M 2w 1d", (1, 3600, 900, 1209600, 86400)), (". . 1 2 3 1W2D 5", (1, 2, 3, 777600, 5))):
+        row(SOA, text, b"\0\0" + b"".join(it.to_bytes(4, "big") for it in numbers))
 
 
 def address_rows():
