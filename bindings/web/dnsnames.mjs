@@ -64,7 +64,7 @@ const FAULTS = new Map([
     [25, ["TooManyEntries", "too many entries in a section", "RFC 1035, 4.1.1"]],
     [26, ["NoSection", "no such section", "RFC 1035, 4.1"]],
     [28, ["BadForm", "an entry hasn't the form of one", "RFC 1035, 4.1"]],
-    [32, ["InvalidTag", "invalid tag", "RFC 8659, 4.1"]],
+    [32, ["BadTag", "invalid tag", "RFC 8659, 4.1"]],
     [33, ["EmptyHash", "empty hash", "RFC 5155, 3.1.6"]],
     [34, ["WindowOrder", "windows of a type bitmap don't ascend", "RFC 4034, 4.1.2"]],
     [35, ["BitmapLength", "a block of a type bitmap has no octet or more than 32", "RFC 4034, 4.1.2"]],

@@ -87,7 +87,7 @@ assert.deepEqual(fieldsOf(33, srv), [
 assert.deepEqual(fieldsOf(33, srv, 3), [[FIELDS.OCTETS, 7, undefined]]);
 assert.deepEqual(fieldsOf(106, octets("00010001020304050607")).at(-1), [FIELDS.NUMBER64, 8, 0x0001020304050607n]);
 assert.equal(dns.fieldsInData(...soa)[2].offset, soa[1].dataOffset + 6);
-assert.equal(faultOf(() => fieldsOf(257, octets("0000"))), "InvalidTag");
+assert.equal(faultOf(() => fieldsOf(257, octets("0000"))), "BadTag");
 assert.equal(faultOf(() => fieldsOf(15, octets("00010000"))), "TrailingData");
 const texts = [...dns.stringsInData(...ofData(16, octets("03616263" + "00" + "0164")))];
 assert.deepEqual(texts.map((text) => new TextDecoder().decode(text)), ["abc", "", "d"]);

@@ -162,7 +162,7 @@ class BadForm(DnsError):
     status, text = 28, "an entry hasn't the form of one"
 
 
-class InvalidTag(DnsError):
+class BadTag(DnsError):
     """A tag in data is empty, or has another octet than letters and digits (RFC 8659, 4.1)."""
 
     status, text = 32, "invalid tag"
@@ -202,7 +202,7 @@ FAULTS = {
     for fault in (
         ShortInput, BadLabelType, TooManyPointers, LongName, CompressedName, RelativeName, TrailingData, NoRoom,
         NoLabel, BadEscape, BadSymbol, BinaryLabel, LongLabel, EmptyLabel, NoField, NoMnemonic, NoBuilder,
-        WrongOrder, TooManyEntries, BadForm, InvalidTag, EmptyHash, WindowOrder, BitmapLength, KeyOrder,
+        WrongOrder, TooManyEntries, BadForm, BadTag, EmptyHash, WindowOrder, BitmapLength, KeyOrder,
     )
 }
 

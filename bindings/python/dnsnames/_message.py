@@ -141,7 +141,7 @@ class Record(NamedTuple):
         [10, Name('m.')]
 
         The data are read whole or not at all: raises their first error, from the left. That is ShortInput where they end
-        inside a field or where one is due, what `read` raises of a name, InvalidTag, EmptyHash, WindowOrder,
+        inside a field or where one is due, what `read` raises of a name, BadTag, EmptyHash, WindowOrder,
         BitmapLength, KeyOrder, or TrailingData where octets follow the last field.
         """
         return tuple(fields_in(self.message, self.data_offset, len(self.data), self.type, self.class_))

@@ -4,7 +4,7 @@ import unittest
 from ipaddress import IPv4Address, IPv6Address
 
 from dnsnames import (
-    BitmapLength, Class, EmptyHash, FieldKind, InvalidTag, KeyOrder, Message, Name, NoField, ShortInput, TooManyPointers,
+    BitmapLength, Class, EmptyHash, FieldKind, BadTag, KeyOrder, Message, Name, NoField, ShortInput, TooManyPointers,
     TrailingData, Type, WindowOrder,
 )
 
@@ -70,7 +70,7 @@ class Cases(unittest.TestCase):
     def test_data_is_read_whole_or_not_at_all(self):
         for type_, data, fault in (
             (Type.MX, b"", ShortInput), (Type.MX, b"\0", ShortInput), (Type.MX, b"\0\1\0\0", TrailingData),
-            (Type.MX, b"\0\1\xc0\x20", TooManyPointers), (Type.CAA, b"\0\0", InvalidTag),
+            (Type.MX, b"\0\1\xc0\x20", TooManyPointers), (Type.CAA, b"\0\0", BadTag),
             (Type.NSEC3, b"\1\0\0\14\0\0", EmptyHash), (Type.NSEC, b"\0\1\1\1\0\1\1", WindowOrder),
             (Type.NSEC, b"\0\0\0", BitmapLength), (Type.HTTPS, b"\0\1\0\0\1\0\0\0\1\0\0", KeyOrder),
         ):

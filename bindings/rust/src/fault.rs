@@ -46,7 +46,7 @@ pub enum Fault {
     /// An entry of a message hasn't the form of one: its name can't be read.
     BadForm,
     /// A tag in data is empty, or has another octet than letters and digits (RFC 8659, 4.1).
-    InvalidTag,
+    BadTag,
     /// The hash in data of NSEC3 is empty (RFC 5155, 3.1.6).
     EmptyHash,
     /// The windows of a type bitmap don't ascend (RFC 4034, 4.1.2).
@@ -82,7 +82,7 @@ impl Fault {
             Fault::WrongOrder => DNSNAMES_WRONG_ORDER,
             Fault::TooManyEntries => DNSNAMES_TOO_MANY_ENTRIES,
             Fault::BadForm => DNSNAMES_BAD_FORM,
-            Fault::InvalidTag => DNSNAMES_BAD_TAG,
+            Fault::BadTag => DNSNAMES_BAD_TAG,
             Fault::EmptyHash => DNSNAMES_EMPTY_HASH,
             Fault::WindowOrder => DNSNAMES_WINDOW_ORDER,
             Fault::BitmapLength => DNSNAMES_BITMAP_LENGTH,
@@ -114,7 +114,7 @@ impl Fault {
             DNSNAMES_WRONG_ORDER => Fault::WrongOrder,
             DNSNAMES_TOO_MANY_ENTRIES => Fault::TooManyEntries,
             DNSNAMES_BAD_FORM => Fault::BadForm,
-            DNSNAMES_BAD_TAG => Fault::InvalidTag,
+            DNSNAMES_BAD_TAG => Fault::BadTag,
             DNSNAMES_EMPTY_HASH => Fault::EmptyHash,
             DNSNAMES_WINDOW_ORDER => Fault::WindowOrder,
             DNSNAMES_BITMAP_LENGTH => Fault::BitmapLength,
@@ -146,7 +146,7 @@ impl fmt::Display for Fault {
             Fault::WrongOrder => "a later section was begun",
             Fault::TooManyEntries => "too many entries in a section",
             Fault::BadForm => "an entry hasn\'t the form of one",
-            Fault::InvalidTag => "invalid tag",
+            Fault::BadTag => "invalid tag",
             Fault::EmptyHash => "empty hash",
             Fault::WindowOrder => "windows of a type bitmap don\'t ascend",
             Fault::BitmapLength => "a block of a type bitmap has no octet or more than 32",

@@ -220,7 +220,7 @@ impl<'a> Message<'a> {
     ///
     /// The data are read whole or not at all, whatever `index` is: otherwise their first error, from the left.
     /// `ShortInput` where they end inside a field or where one is due, `TrailingData` where octets follow the last one.
-    /// A fault of [`read`] at a name; `InvalidTag`, `EmptyHash`, `WindowOrder`, `BitmapLength`, `KeyOrder`.
+    /// A fault of [`read`] at a name; `BadTag`, `EmptyHash`, `WindowOrder`, `BitmapLength`, `KeyOrder`.
     ///
     /// ```
     /// use dnsnames::{FieldKind, Message};

@@ -445,7 +445,7 @@ fn fields_in_data() {
 #[test]
 fn faults_of_data() {
     for (rtype, data, fault) in [
-        (257, &b"\0\0"[..], Fault::InvalidTag),
+        (257, &b"\0\0"[..], Fault::BadTag),
         (50, b"\x01\0\0\x0c\0\0", Fault::EmptyHash),
         (47, b"\0\x01\x01\x40\0\x01\x40", Fault::WindowOrder),
         (47, b"\0\0\0", Fault::BitmapLength),
