@@ -62,7 +62,7 @@ typedef enum dnsnames_status {
     DNSNAMES_COMPRESSED = 5,
     /* Octets of an absolute name: they end after a label that is not the root. */
     DNSNAMES_RELATIVE = 6,
-    /* Octets of an absolute name: more octets follow the root. */
+    /* Octets of an absolute name: more octets follow the root. Data of a record: more octets follow the last field. */
     DNSNAMES_TRAILING_DATA = 7,
     /* The buffer is too small. It is as it was, and *length tells how many octets are needed. */
     DNSNAMES_NO_ROOM = 8,
@@ -102,7 +102,7 @@ typedef enum dnsnames_status {
     DNSNAMES_TOO_MANY_ENTRIES = 25,
     /* Building: there is no such section. */
     DNSNAMES_NO_SECTION = 26,
-    /* All strings or options of the data were given: no fault, but the end. */
+    /* All fields, strings or options of the data were given: no fault, but the end. */
     DNSNAMES_NO_MORE = 27,
     /* Text of a message: an entry hasn't the form of one. */
     DNSNAMES_BAD_FORM = 28,
@@ -111,7 +111,17 @@ typedef enum dnsnames_status {
     /* Aliases: the first question has no canonical name, or more records lead on than the limit allows. */
     DNSNAMES_NO_END = 30,
     /* Building: the mark is no builder as its calls leave it, or is longer than the message. */
-    DNSNAMES_NO_MARK = 31
+    DNSNAMES_NO_MARK = 31,
+    /* Data of a record: a tag is empty, or has another octet than letters and digits (RFC 8659, 4.1). */
+    DNSNAMES_BAD_TAG = 32,
+    /* Data of a record: the hash of NSEC3 is empty (RFC 5155, 3.1.6). */
+    DNSNAMES_EMPTY_HASH = 33,
+    /* Data of a record: the windows of a type bitmap don't ascend (RFC 4034, 4.1.2). */
+    DNSNAMES_WINDOW_ORDER = 34,
+    /* Data of a record: a block of a type bitmap has no octet, or more than 32 (RFC 4034, 4.1.2). */
+    DNSNAMES_BITMAP_LENGTH = 35,
+    /* Data of a record: the keys of service parameters don't ascend (RFC 9460, 2.2). */
+    DNSNAMES_KEY_ORDER = 36
 } dnsnames_status;
 
 /* The version of the library: a text that stays. */
@@ -365,16 +375,114 @@ dnsnames_status dnsnames_is_answer(const uint8_t *message, size_t message_len, c
 dnsnames_status dnsnames_canonical_name(const uint8_t *message, size_t message_len, uint16_t limit, uint8_t *buffer,
                                         size_t capacity, size_t *length);
 
-/* The name with `index` names before it in the data of a record: data, data_len and type are those that dnsnames_record
- * gives. The buffer gets the uncompressed name, *length its size. Unlike dnsnames_read it reads no octet after the data
- * as a part of the name: pointers lead before, and none leads back into what follows.
+/* What the fields of data are. Those up to DNSNAMES_FIELD_TYPE are numbers, the high octet first (RFC 1035, 2.3.2). What
+ * is counted begins with the octets that count it. */
+enum {
+    DNSNAMES_FIELD_NUMBER8 = 1,
+    DNSNAMES_FIELD_NUMBER16 = 2,
+    DNSNAMES_FIELD_NUMBER32 = 3,
+    DNSNAMES_FIELD_NUMBER48 = 4,
+    DNSNAMES_FIELD_NUMBER64 = 5,
+    DNSNAMES_FIELD_TTL = 6,     /* of 32 bits: a time to live or an interval, in seconds */
+    DNSNAMES_FIELD_SERIAL = 7,  /* of 32 bits (RFC 1982) */
+    DNSNAMES_FIELD_TIME = 8,    /* of 32 bits: seconds since the beginning of 1970, as a serial (RFC 4034, 3.1.5) */
+    DNSNAMES_FIELD_TYPE = 9,    /* of 16 bits: a type of records */
+    DNSNAMES_FIELD_IPV4 = 10,
+    DNSNAMES_FIELD_IPV6 = 11,
+    DNSNAMES_FIELD_NAME = 12,   /* dnsnames_read reads it at its offset, with data + data_len for the message's size */
+    DNSNAMES_FIELD_CHAR_STRING = 13,     /* counted by an octet (RFC 1035, 3.3) */
+    DNSNAMES_FIELD_OPTIONAL_STRING = 14, /* the same, or no octet at all where the data end (RFC 1183, 3.2) */
+    DNSNAMES_FIELD_CHAR_STRINGS = 15,    /* one after another to the end of the data, one or more */
+    DNSNAMES_FIELD_TAG = 16,             /* letters and digits, one or more, counted by an octet (RFC 8659, 4.1) */
+    DNSNAMES_FIELD_QUOTED_TEXT = 17,     /* all octets to the end of the data, shown between quotes */
+    DNSNAMES_FIELD_COUNTED_BASE16 = 18,  /* counted by an octet, shown in hexadecimal */
+    DNSNAMES_FIELD_COUNTED_BASE32 = 19,  /* counted by an octet, one or more, shown in base32hex */
+    DNSNAMES_FIELD_COUNTED_BASE64 = 20,  /* counted by two octets, shown in base64 */
+    DNSNAMES_FIELD_TYPE_BITMAPS = 21,    /* to the end of the data, one block or more (RFC 4034, 4.1.2) */
+    DNSNAMES_FIELD_OPTIONAL_TYPE_BITMAPS = 22, /* the same, or no octet at all */
+    DNSNAMES_FIELD_SVC_PARAMS = 23,      /* to the end of the data (RFC 9460, 2.2) */
+    DNSNAMES_FIELD_BASE16 = 24,          /* all octets to the end of the data, shown in hexadecimal */
+    DNSNAMES_FIELD_BASE64 = 25,          /* all octets to the end of the data, shown in base64 */
+    DNSNAMES_FIELD_OCTETS = 26           /* all octets to the end of the data, of which no more is known */
+};
+
+/* A field of data: what it is, the offset in the message at which it begins, the one after it, and the number that it is,
+ * or 0 where it is none. */
+typedef struct dnsnames_field {
+    uint32_t kind;
+    size_t begin;
+    size_t end;
+    uint64_t number;
+} dnsnames_field;
+
+/* The field with `index` fields before it in the data of a record: data, data_len, type and class_ are those that
+ * dnsnames_record gives. The fields of each type, without DNSNAMES_FIELD_ before them:
  *
- * NO_FIELD where data of this type have no such name. Known are the types of RFC 1035, 3.3, with names (NS, MD, MF,
- * CNAME, SOA, MB, MG, MR, PTR, MX, and MINFO; SOA and MINFO have two), RP with two and AFSDB and RT (RFC 1183), PX with
- * two (RFC 2163), KX (RFC 2230), SRV (RFC 2782) and DNAME (RFC 6672).
- * SHORT_INPUT where the data end past the message, or a name or what follows it past the data; TRAILING_DATA where the
- * data go on after all that such data have; LABEL_TYPE, LONG_NAME as dnsnames_skip has them for any of the names. Then
- * TOO_MANY_POINTERS and the others, as dnsnames_read has them, for the name that is asked for; NO_ROOM.
+ *     A *                                IPV4
+ *     AAAA *                             IPV6
+ *     NS MD MF CNAME MB MG MR PTR DNAME  NAME
+ *     MINFO RP TALINK                    NAME NAME
+ *     SOA                                NAME NAME SERIAL TTL TTL TTL TTL
+ *     MX AFSDB RT KX * LP                NUMBER16 NAME
+ *     PX *                               NUMBER16 NAME NAME
+ *     SRV *                              NUMBER16 NUMBER16 NUMBER16 NAME
+ *     NAPTR                              NUMBER16 NUMBER16 CHAR_STRING CHAR_STRING CHAR_STRING NAME
+ *     X25                                CHAR_STRING
+ *     HINFO                              CHAR_STRING CHAR_STRING
+ *     GPOS                               CHAR_STRING CHAR_STRING CHAR_STRING
+ *     ISDN                               CHAR_STRING OPTIONAL_STRING
+ *     TXT SPF AVC                        CHAR_STRINGS
+ *     CAA                                NUMBER8 TAG QUOTED_TEXT
+ *     URI                                NUMBER16 NUMBER16 QUOTED_TEXT
+ *     SVCB * HTTPS *                     NUMBER16 NAME SVC_PARAMS
+ *     SIG RRSIG                          TYPE NUMBER8 NUMBER8 TTL TIME TIME NUMBER16 NAME BASE64
+ *     KEY DNSKEY CDNSKEY                 NUMBER16 NUMBER8 NUMBER8 BASE64
+ *     DS CDS DLV                         NUMBER16 NUMBER8 NUMBER8 BASE16
+ *     NSEC                               NAME TYPE_BITMAPS
+ *     NSEC3                              NUMBER8 NUMBER8 NUMBER16 COUNTED_BASE16 COUNTED_BASE32 OPTIONAL_TYPE_BITMAPS
+ *     NSEC3PARAM                         NUMBER8 NUMBER8 NUMBER16 COUNTED_BASE16
+ *     CSYNC                              SERIAL NUMBER16 OPTIONAL_TYPE_BITMAPS
+ *     ZONEMD                             SERIAL NUMBER8 NUMBER8 BASE16
+ *     CERT                               NUMBER16 NUMBER16 NUMBER8 BASE64
+ *     SSHFP                              NUMBER8 NUMBER8 BASE16
+ *     TLSA SMIMEA                        NUMBER8 NUMBER8 NUMBER8 BASE16
+ *     DHCID * OPENPGPKEY                 BASE64
+ *     NID L64                            NUMBER16 NUMBER64
+ *     L32                                NUMBER16 IPV4
+ *     EUI48                              NUMBER48
+ *     EUI64                              NUMBER64
+ *     NXT                                NAME OCTETS
+ *     TKEY                               NAME TIME TIME NUMBER16 NUMBER16 COUNTED_BASE64 COUNTED_BASE64
+ *     TSIG                               NAME NUMBER48 NUMBER16 COUNTED_BASE64 NUMBER16 NUMBER16 COUNTED_BASE64
+ *     all others                         OCTETS
+ *
+ * Types with a star have them in class IN alone, and OCTETS in another class.
+ *
+ * NO_MORE where the data have no more than `index` fields. The data are read whole or not at all, whatever `index` is:
+ * otherwise the status is that of their first error, from the left. SHORT_INPUT where they end past the message, inside a
+ * field, or where one is due; LABEL_TYPE, TOO_MANY_POINTERS, LONG_NAME as dnsnames_read has them of a name, which is read
+ * as in a message that ends with the data; BAD_TAG, EMPTY_HASH, WINDOW_ORDER, BITMAP_LENGTH, KEY_ORDER; TRAILING_DATA
+ * where octets follow the last field.
+ *
+ *     dnsnames_field field;
+ *     size_t index = 0;
+ *     while ((status = dnsnames_data_field(message, message_len, record.data, record.data_len, record.type, record.class_,
+ *                                          index++, &field)) == DNSNAMES_OK)
+ *         if (field.kind <= DNSNAMES_FIELD_TYPE)
+ *             printf("%llu\n", (unsigned long long)field.number);
+ *     if (status != DNSNAMES_NO_MORE)
+ *         fprintf(stderr, "%s\n", dnsnames_strerror(status));
+ */
+dnsnames_status dnsnames_data_field(const uint8_t *message, size_t message_len, size_t data, size_t data_len,
+                                    uint16_t type, uint16_t class_, size_t index, dnsnames_field *field);
+
+/* The name with `index` names before it in the data of a record of class IN, as this call isn't passed a class: data,
+ * data_len and type are those that dnsnames_record gives. The buffer gets the uncompressed name, *length its size. Unlike
+ * dnsnames_read it reads no octet after the data as a part of the name: pointers lead before, and none leads back into
+ * what follows.
+ *
+ * NO_FIELD where data of this type have no such name. Otherwise the data are read whole or not at all, and the status is
+ * that of their first error, as dnsnames_data_field has it; NO_ROOM.
  *
  *     dnsnames_record_fields record;
  *     status = dnsnames_record(message, message_len, offset, &record);
@@ -385,7 +493,7 @@ dnsnames_status dnsnames_canonical_name(const uint8_t *message, size_t message_l
 dnsnames_status dnsnames_data_name(const uint8_t *message, size_t message_len, size_t data, size_t data_len,
                                    uint16_t type, size_t index, uint8_t *buffer, size_t capacity, size_t *length);
 
-/* The numbers of data, by how many numbers are before them: of MX, RT, PX and KX the preference (of AFSDB the subtype), of
+/* Numbers of some data, by how many numbers are before them: of MX, RT, PX and KX the preference (of AFSDB the subtype), of
  * SRV priority, weight and port, of SOA serial, refresh, retry, expire and minimum. */
 enum {
     DNSNAMES_PREFERENCE = 0,
@@ -399,25 +507,26 @@ enum {
     DNSNAMES_MINIMUM = 4
 };
 
-/* The number with `index` numbers before it in the data of a record: of 16 bits in MX, AFSDB, RT, PX, KX and SRV, of 32 in
- * SOA, whose two names are skipped. The data are read whole or not at all, as dnsnames_data_name reads them.
+/* The number with `index` numbers before it in the data of a record of class IN, as this call isn't passed a class. Only
+ * numbers of at most 32 bits are counted and given; dnsnames_data_field gives the others, too.
  *
- * NO_FIELD where data of this type have no such number; SHORT_INPUT, TRAILING_DATA, LABEL_TYPE, LONG_NAME as
- * dnsnames_data_name has them of the data. */
+ * NO_FIELD where data of this type have no such number; otherwise the status is that of the data's first error, as
+ * dnsnames_data_field has it. */
 dnsnames_status dnsnames_data_number(const uint8_t *message, size_t message_len, size_t data, size_t data_len,
                                      uint16_t type, size_t index, uint32_t *value);
 
-/* The address that is the data of a record of class IN: 4 octets of A (RFC 1035, 3.4.1), 16 of AAAA (RFC 3596, 2.2). The
- * buffer gets them, *length their number.
+/* The first address in the data of a record of class IN, as this call isn't passed a class: 4 octets of an IPv4 address,
+ * as A (RFC 1035, 3.4.1) and L32 have one, 16 of an IPv6 address, as AAAA has (RFC 3596, 2.2). The buffer gets them,
+ * *length their number.
  *
- * NO_FIELD where the type is another; SHORT_INPUT where the data end past the message or have fewer octets, TRAILING_DATA
- * where they have more; NO_ROOM. */
+ * NO_FIELD where data of this type have no address; otherwise the status is that of the data's first error, as
+ * dnsnames_data_field has it; NO_ROOM. */
 dnsnames_status dnsnames_data_address(const uint8_t *message, size_t message_len, size_t data, size_t data_len,
                                       uint16_t type, uint8_t *buffer, size_t capacity, size_t *length);
 
-/* The character strings of the data of TXT (RFC 1035, 3.3.14) and SPF (RFC 4408, 3.1.1), one after another: *passed is how
- * many octets of the data were passed, 0 for the first string and then as the call leaves it. *string becomes the offset of
- * the string's octets in the message, *string_len how many there are.
+/* The character strings of the data of TXT (RFC 1035, 3.3.14), SPF (RFC 4408, 3.1.1) and AVC, one after another: *passed
+ * is how many octets of the data were passed, 0 for the first string and then as the call leaves it. *string becomes the
+ * offset of the string's octets in the message, *string_len how many there are.
  *
  * NO_MORE where all strings were passed. NO_FIELD where the type is another; SHORT_INPUT where the data end past the
  * message, where they end in the string, or where they have no octet, since there is one string at least.
@@ -472,8 +581,8 @@ dnsnames_status dnsnames_data_option(const uint8_t *message, size_t message_len,
  *     ;; ADDITIONAL SECTION
  *     ; EDNS: version: 0, flags: do; udp: 1232
  *
- * An owner, and the name of a question, is as in a zone: ; " ( ) @ and $ have a backslash before them, too. Where octets
- * follow the last record, a last line says how many, as "; trailing octets: 4".
+ * Names are as in a zone: ; " ( ) @ and $ have a backslash before them, too. Where octets follow the last record, a last
+ * line says how many, as "; trailing octets: 4".
  *
  * Data that can't be read by their type are shown as octets (RFC 3597, 5), with the reason behind them. Names that pointers
  * lead to are written out, so a message of 65,535 octets can be made whose text has more than nine million.
@@ -760,11 +869,16 @@ static inline const char *dnsnames_strerror(uint32_t status)
     case DNSNAMES_WRONG_ORDER: return "a later section was begun";
     case DNSNAMES_TOO_MANY_ENTRIES: return "too many entries in a section";
     case DNSNAMES_NO_SECTION: return "no such section";
-    case DNSNAMES_NO_MORE: return "no more strings or options";
+    case DNSNAMES_NO_MORE: return "no more fields, strings or options";
     case DNSNAMES_BAD_FORM: return "an entry hasn't the form of one";
     case DNSNAMES_NO_TEXT: return "the text wasn't made";
     case DNSNAMES_NO_END: return "aliases lead to no name";
     case DNSNAMES_NO_MARK: return "no mark of this message";
+    case DNSNAMES_BAD_TAG: return "invalid tag";
+    case DNSNAMES_EMPTY_HASH: return "empty hash";
+    case DNSNAMES_WINDOW_ORDER: return "windows of a type bitmap don't ascend";
+    case DNSNAMES_BITMAP_LENGTH: return "a block of a type bitmap has no octet or more than 32";
+    case DNSNAMES_KEY_ORDER: return "keys of service parameters don't ascend";
     default: return "unknown status";
     }
 }

@@ -48,6 +48,9 @@ uint32_t proved_dnsnames_is_answer(const uint8_t *message, size_t message_len, c
                                    uint32_t *yes);
 uint32_t proved_dnsnames_canonical_name(const uint8_t *message, size_t message_len, uint16_t limit, uint8_t *buffer,
                                         size_t capacity, size_t *length);
+uint32_t proved_dnsnames_data_field(const uint8_t *message, size_t message_len, size_t data, size_t data_len,
+                                    uint16_t type, uint16_t class_, size_t index, uint32_t *kind, size_t *begin,
+                                    size_t *end, uint64_t *number);
 uint32_t proved_dnsnames_data_name(const uint8_t *message, size_t message_len, size_t data, size_t data_len,
                                    uint16_t type, size_t index, uint8_t *buffer, size_t capacity, size_t *length);
 uint32_t proved_dnsnames_data_number(const uint8_t *message, size_t message_len, size_t data, size_t data_len,
@@ -304,6 +307,14 @@ dnsnames_status dnsnames_canonical_name(const uint8_t *message, size_t message_l
     return GUARDED(is_null(message, message_len) || is_null(buffer, capacity) || length == NULL,
                    proved_dnsnames_canonical_name(octets_at(message), message_len, limit, room_at(buffer), capacity,
                                                   length));
+}
+
+dnsnames_status dnsnames_data_field(const uint8_t *message, size_t message_len, size_t data, size_t data_len,
+                                    uint16_t type, uint16_t class_, size_t index, dnsnames_field *field)
+{
+    return GUARDED(is_null(message, message_len) || field == NULL,
+                   proved_dnsnames_data_field(octets_at(message), message_len, data, data_len, type, class_, index,
+                                              &field->kind, &field->begin, &field->end, &field->number));
 }
 
 dnsnames_status dnsnames_data_name(const uint8_t *message, size_t message_len, size_t data, size_t data_len,

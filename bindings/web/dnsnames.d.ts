@@ -46,6 +46,23 @@ export interface DnsRecord extends Question {
     data: Uint8Array;
 }
 
+/** What the fields of record data are. */
+export const FIELDS: Readonly<Record<
+    "NUMBER8" | "NUMBER16" | "NUMBER32" | "NUMBER48" | "NUMBER64" | "TTL" | "SERIAL" | "TIME" | "TYPE" | "IPV4" | "IPV6"
+    | "NAME" | "CHAR_STRING" | "OPTIONAL_STRING" | "CHAR_STRINGS" | "TAG" | "QUOTED_TEXT" | "COUNTED_BASE16" |
+    "COUNTED_BASE32" | "COUNTED_BASE64" | "TYPE_BITMAPS" | "OPTIONAL_TYPE_BITMAPS" | "SVC_PARAMS" | "BASE16" | "BASE64"
+    | "OCTETS",
+    number
+>>;
+
+/** A field of record data: `kind` is one of FIELDS, and `number` there where it is a number: of 64 bits a BigInt. */
+export interface Field {
+    kind: number;
+    offset: number;
+    octets: Uint8Array;
+    number?: number | bigint;
+}
+
 /** What an OPT record says: `rcode` has twelve bits. */
 export interface Opt {
     size: number;
@@ -122,6 +139,7 @@ export class DnsNames {
     header(message: Uint8Array): Header;
     question(message: Uint8Array, offset?: number): Question;
     record(message: Uint8Array, offset: number): DnsRecord;
+    fieldsInData(message: Uint8Array, record: DnsRecord): Field[];
     nameInData(message: Uint8Array, record: DnsRecord, index?: number): NameRead;
     numberInData(message: Uint8Array, record: DnsRecord, index?: number): number;
     addressInData(message: Uint8Array, record: DnsRecord): Uint8Array;

@@ -25,6 +25,14 @@ export const FLAGS = Object.freeze({
     QR: 0x8000, AA: 0x0400, TC: 0x0200, RD: 0x0100, RA: 0x0080, AD: 0x0020, CD: 0x0010,
 });
 
+/** What the fields of record data are, as `fieldsInData` has them. Those up to TYPE are numbers. */
+export const FIELDS = Object.freeze({
+    NUMBER8: 1, NUMBER16: 2, NUMBER32: 3, NUMBER48: 4, NUMBER64: 5, TTL: 6, SERIAL: 7, TIME: 8, TYPE: 9, IPV4: 10, IPV6:
+    11, NAME: 12, CHAR_STRING: 13, OPTIONAL_STRING: 14, CHAR_STRINGS: 15, TAG: 16, QUOTED_TEXT: 17, COUNTED_BASE16: 18,
+    COUNTED_BASE32: 19, COUNTED_BASE64: 20, TYPE_BITMAPS: 21, OPTIONAL_TYPE_BITMAPS: 22, SVC_PARAMS: 23, BASE16: 24,
+    BASE64: 25, OCTETS: 26,
+});
+
 // A row of the module's table has eight numbers of 32 bits; no question or record has fewer than five octets.
 const ROW_LEN = 8;
 const LEAST_ENTRY = 5;
@@ -37,7 +45,7 @@ const FAULTS = new Map([
     [4, ["LongName", "long domain name", "RFC 1035, 2.3.4 and 3.1"]],
     [5, ["CompressedName", "compressed domain name", "RFC 1035, 4.1.4"]],
     [6, ["RelativeName", "relative domain name", "RFC 1035, 3.1"]],
-    [7, ["TrailingData", "trailing data", "RFC 1035, 3.1"]],
+    [7, ["TrailingData", "trailing data", "RFC 1035, 3.1 and 3.3"]],
     [8, ["NoRoom", "buffer too small", ""]],
     [9, ["NoName", "not an uncompressed domain name", "RFC 1035, 3.1"]],
     [10, ["NoLabel", "no such label", ""]],
@@ -56,9 +64,14 @@ const FAULTS = new Map([
     [25, ["TooManyEntries", "too many entries in a section", "RFC 1035, 4.1.1"]],
     [26, ["NoSection", "no such section", "RFC 1035, 4.1"]],
     [28, ["BadForm", "an entry hasn't the form of one", "RFC 1035, 4.1"]],
+    [32, ["BadTag", "invalid tag", "RFC 8659, 4.1"]],
+    [33, ["EmptyHash", "empty hash", "RFC 5155, 3.1.6"]],
+    [34, ["WindowOrder", "windows of a type bitmap don't ascend", "RFC 4034, 4.1.2"]],
+    [35, ["BitmapLength", "a block of a type bitmap has no octet or more than 32", "RFC 4034, 4.1.2"]],
+    [36, ["KeyOrder", "keys of service parameters don't ascend", "RFC 9460, 2.2"]],
 ]);
 
-// The status of the module where all strings or options of data were given.
+// The status of the module where all fields, strings or options of data were given.
 const NO_MORE = 27;
 // Its status where a text needs more room.
 const NO_ROOM = 8;
@@ -225,8 +238,30 @@ export class DnsNames {
         };
     }
 
-    /** The name with so many names before it in the data of a record of this message: its octets, text and labels. It
-     *  doesn't leave the data. NoField where data of its type have no such name, TrailingData where they go on. */
+    /** The fields of the data of a record of this message, in their order, by its type and class: of each its kind (one of
+     *  FIELDS), its octets as they are in the message, its offset there, and the number that it is, if it is one: of 64 bits a
+     *  BigInt. The data are read whole or not at all: throws their first error. */
+    fieldsInData(message, record) {
+        const [slice] = this.#begin(message), fields = [];
+        const values = [...slice, ...dataOf(record), whole("class", record.class, 16)];
+        const results = this.#results(4), [kindAt, beginAt, endAt, numberAt] = results;
+        for (;;) {
+            const index = BigInt(fields.length);
+            const status = this.#exports.dnsnames_data_field(...values, index, ...results) >>> 0;
+            if (status === NO_MORE) return fields;
+            if (status !== 0) throw new NameFault(status, record.dataOffset);
+            const kind = this.#view().getUint32(Number(kindAt), true), offset = this.#size(beginAt);
+            const field = { kind, offset, octets: message.slice(offset, this.#size(endAt)) };
+            if (kind <= FIELDS.TYPE) {
+                const number = this.#view().getBigUint64(Number(numberAt), true);
+                field.number = kind === FIELDS.NUMBER64 ? number : Number(number);
+            }
+            fields.push(field);
+        }
+    }
+
+    /** The name with so many names before it in the data of a record of this message, as of class IN: its octets, text and
+     *  labels. It doesn't leave the data. NoField where data of its type have no such name, and the data's first error. */
     nameInData(message, record, index = 0) {
         const [slice, room] = this.#begin(message, MAX_LEN);
         const [length] = this.#results(1);
@@ -237,9 +272,9 @@ export class DnsNames {
         return { octets, text: this.toText(octets), labels: labelsOf(octets) };
     }
 
-    /** The number with so many numbers before it in the data of a record of this message: the preference of MX, RT, PX and KX,
-     *  the subtype of AFSDB, the priority, weight and port of SRV, the serial, refresh, retry, expire and minimum of SOA.
-     *  NoField where data of its type have no such number. */
+    /** The number of at most 32 bits with so many such numbers before it in the data of a record of this message, as of class
+     *  IN: of MX the preference, of SRV priority, weight and port, of SOA serial, refresh, retry, expire and minimum. NoField
+     *  where data of its type have no such number, and the data's first error. */
     numberInData(message, record, index = 0) {
         const [slice] = this.#begin(message);
         const [value] = this.#results(1);
@@ -247,8 +282,8 @@ export class DnsNames {
         return this.#view().getUint32(Number(value), true);
     }
 
-    /** The octets of the address of an A or AAAA record of this message: 4, or 16. NoField for another type, ShortInput or
-     *  TrailingData where the data have fewer or more octets. */
+    /** The octets of the first address in the data of a record of this message, as of class IN: 4 of A and L32, 16 of AAAA.
+     *  NoField for another type, and the data's first error. */
     addressInData(message, record) {
         const [slice, room] = this.#begin(message, 16);
         const [length] = this.#results(1);
@@ -256,7 +291,7 @@ export class DnsNames {
         return this.#octets(room, length);
     }
 
-    /** The character strings of a TXT or SPF record of this message, each as its octets. NoField for another type, ShortInput
+    /** The character strings of a TXT, SPF or AVC record of this message, each as its octets. NoField for another type, ShortInput
      *  where the data have no string or end in one. */
     *stringsInData(message, record) {
         const read = ([string, length]) => [this.#size(string), this.#size(length)];
@@ -322,8 +357,8 @@ export class DnsNames {
     }
 
     /** The text of a message as dig writes it: two lines of its header, and for each section its heading and a line for each
-     *  question or record. Data that can't be read by their type are shown as octets, and why (RFC 3597, 5). Owners and names
-     *  of questions are as in a zone: ; " ( ) @ and $ have a backslash before them, too. A last line says how many octets
+     *  question or record. Data that can't be read by their type are shown as octets, and why (RFC 3597, 5). Names
+     *  are as in a zone: ; " ( ) @ and $ have a backslash before them, too. A last line says how many octets
      *  follow the last record, if any do. ShortInput where the message ends before all that its header counts, BadForm where
      *  an entry hasn't the form of one: `shown` is then the text of what stands before. */
     messageText(message) {

@@ -4,7 +4,7 @@
 //     node --experimental-wasm-memory64 test_module.mjs dnsnames_c.wasm
 import assert from "node:assert/strict";
 import { readFileSync } from "node:fs";
-import { DnsNames, FLAGS, load, NameFault } from "./dnsnames.mjs";
+import { DnsNames, FIELDS, FLAGS, load, NameFault } from "./dnsnames.mjs";
 
 const dns = await load(readFileSync(process.argv[2]));
 const from = (text) => dns.fromText(text);
@@ -78,6 +78,17 @@ assert.equal(faultOf(() => dns.numberInData(...ofData(15, octets("000a0161")))),
 assert.deepEqual([...dns.addressInData(...ofData(1, octets("c0000201")))], [192, 0, 2, 1]);
 assert.equal(dns.addressInData(...ofData(28, new Uint8Array(16))).length, 16);
 assert.equal(faultOf(() => dns.addressInData(...ofData(28, new Uint8Array(17)))), "TrailingData");
+// Fields: SRV has some in class IN alone (RFC 2782); L64 has a number of 64 bits.
+const fieldsOf = (...args) => dns.fieldsInData(...ofData(...args)).map(({ kind, octets, number }) => [kind, octets.length, number]);
+const srv = octets("0001" + "0002" + "0035" + "00");
+assert.deepEqual(fieldsOf(33, srv), [
+    [FIELDS.NUMBER16, 2, 1], [FIELDS.NUMBER16, 2, 2], [FIELDS.NUMBER16, 2, 53], [FIELDS.NAME, 1, undefined],
+]);
+assert.deepEqual(fieldsOf(33, srv, 3), [[FIELDS.OCTETS, 7, undefined]]);
+assert.deepEqual(fieldsOf(106, octets("00010001020304050607")).at(-1), [FIELDS.NUMBER64, 8, 0x0001020304050607n]);
+assert.equal(dns.fieldsInData(...soa)[2].offset, soa[1].dataOffset + 6);
+assert.equal(faultOf(() => fieldsOf(257, octets("0000"))), "BadTag");
+assert.equal(faultOf(() => fieldsOf(15, octets("00010000"))), "TrailingData");
 const texts = [...dns.stringsInData(...ofData(16, octets("03616263" + "00" + "0164")))];
 assert.deepEqual(texts.map((text) => new TextDecoder().decode(text)), ["abc", "", "d"]);
 assert.equal(faultOf(() => [...dns.stringsInData(...ofData(16, new Uint8Array(0)))]), "ShortInput");

@@ -69,8 +69,8 @@ typedef enum dnsnames_zone_status {
 } dnsnames_zone_status;
 
 /* Reads the text of a zone (RFC 1035, 5) at this apex, a name in wire format, and of this class. Until $ORIGIN says
- * otherwise, relative names go on with the apex; until a record says otherwise, its class is that of the zone. $INCLUDE
- * is refused. Names in data have their final dot.
+ * otherwise, relative names go on with the apex, in data too, and @ is the apex; until a record says otherwise, its
+ * class is that of the zone. $INCLUDE is refused.
  *
  * Another number than DNSNAMES_ZONE_OK says why the text is that of no zone, and *place where. A zone that was held is
  * freed where the new one is loaded, and else kept. */
@@ -80,8 +80,7 @@ uint32_t dnsnames_zone_load(dnsnames_zone *zone, const uint8_t *text, size_t tex
 /* Gives the message that answers a query: over UDP, or over TCP, from a server that takes `payload_size` octets in a
  * datagram. *length becomes its size, at most 65,535 octets.
  *
- * NONE, NO_RESPONSE, NO_MEMORY: nothing is changed. NO_ROOM: the buffer is unchanged. Where memory for the message itself
- * is refused, records are left out of it, and it has TC. */
+ * NONE, NO_RESPONSE, NO_MEMORY: nothing is changed. NO_ROOM: the buffer is unchanged. */
 uint32_t dnsnames_zone_answer(dnsnames_zone *zone, uint32_t transport, uint16_t payload_size, const uint8_t *query,
                               size_t query_len, uint8_t *buffer, size_t capacity, size_t *length);
 

@@ -130,7 +130,7 @@ const char *dnsnames_zone_strerror(uint32_t status)
     case 89:
         return "not an IPv6 address";
     case 90:
-        return "not an absolute name with its final dot";
+        return "not a name";
     case 91:
         return "not a character string";
     case 92:

@@ -7,7 +7,7 @@ and `rebuild` where the message can't be read.
 It is a reader of its own: RFC 1035, 3.3, 3.4, 4.1 and 5.1 for messages, data and texts, RFC 5452, 9.1 for which message
 answers which query, RFC 2782, 3596 and 6672 for SRV, AAAA and DNAME, RFC 5952 for IPv6 addresses; for `any` the RFC of each
 type beside it, RFC 4034, 6.2, with RFC 6840, 5.1, for the canonical form, RFC 3597, 4 and 5, for what may be compressed and
-for types that aren't known. The texts of errors, and which of several comes first, are those of the Rust crate. Another
+for types that aren't known, and RFC 1035, 5.1, for what has a meaning in a zone. The texts of errors, and which of several comes first, are those of the Rust crate. Another
 line is answered by nothing.
 """
 import base64
@@ -88,8 +88,12 @@ def spelled(octets, special):
     return text
 
 
-def name_text(labels):
-    return "".join(spelled(label, b" .\\") + "." for label in labels) or "."
+def name_text(labels, special=b" .\\"):
+    return "".join(spelled(label, special) + "." for label in labels) or "."
+
+
+# What has a meaning in a zone (RFC 1035, 5.1): names of `any` have a backslash before each of these.
+OF_ZONES = b' .\\;"()@$'
 
 
 def of_name(data):
@@ -158,13 +162,47 @@ TYPED = {
     52: "111x",  # RFC 6698
     257: "1tq",  # RFC 8659
 }
-# SVCB and HTTPS, which `any` knows, too: v service parameters.
-SERVICES = {64: "2wv", 65: "2wv"}  # RFC 9460
+# The other types that `any` knows, in class IN. Beside the letters above: S character strings to the end, one or more, o one
+# or none, M bitmaps of types or none, v service parameters. Octets behind their number are h in hexadecimal digits and H in
+# base32hex. Without a text are 6 and 8, numbers of 6 and 8 octets, B, octets behind their number in two, and y, those to the end.
+OTHERS = {
+    11: "y", 16: "S",  # RFC 1035
+    19: "s", 20: "so",  # RFC 1183
+    24: "T114DD2wb", 25: "211b", 30: "wy",  # RFC 2535
+    27: "sss",  # RFC 1712
+    29: "y",  # RFC 1876
+    37: "221b",  # RFC 4398
+    42: "y",  # RFC 3123
+    45: "y",  # RFC 4025
+    49: "b",  # RFC 4701
+    50: "112hHM", 51: "112h",  # RFC 5155
+    53: "111x",  # RFC 8162
+    55: "y",  # RFC 8005
+    58: "ww",  # the template of TALINK in IANA's registry
+    59: "211x", 60: "211b",  # RFC 7344
+    61: "b",  # RFC 7929
+    62: "42M",  # RFC 7477
+    63: "411x",  # RFC 8976
+    64: "2wv", 65: "2wv",  # RFC 9460
+    99: "S",  # RFC 4408
+    104: "28", 105: "2a", 106: "28", 107: "2w",  # RFC 6742
+    108: "6", 109: "8",  # RFC 7043
+    249: "wDD22BB",  # RFC 2930
+    250: "w62B22B",  # RFC 8945
+    256: "22q",  # RFC 7553
+    258: "S",  # the template of AVC in IANA's registry
+    260: "y",  # RFC 8777
+    32769: "211x",  # RFC 4431
+}
 # The types whose fields `any` knows
-ALL = SHAPES | TYPED | SERVICES
+ALL = SHAPES | TYPED | OTHERS
+# Those whose data is octets in classes other than IN, as their RFCs define them for IN alone
+OF_IN = {1, 11, 26, 28, 33, 36, 42, 49, 64, 65}
 # The mnemonics that rows have (RFC 1035, 3.2.2, and the RFC of each type)
 MNEMONICS = {1: "A", 2: "NS", 6: "SOA", 15: "MX", 16: "TXT", 28: "AAAA", 43: "DS", 46: "RRSIG", 47: "NSEC", 48: "DNSKEY",
              257: "CAA"}
+# Those that rows of `any` alone have (RFC 2535; RFC 5155)
+LATER_MNEMONICS = {30: "NXT", 51: "NSEC3PARAM"}
 
 
 def name_octets(labels):
@@ -175,7 +213,7 @@ def type_text(number):
     # As questions for any type are written (RFC 2136, 2.4), and as dnspython has it.
     if number == 255:
         return "ANY"
-    return MNEMONICS.get(number, f"TYPE{number}")
+    return (MNEMONICS | LATER_MNEMONICS).get(number, f"TYPE{number}")
 
 
 def bitmaps(data):
@@ -260,11 +298,39 @@ def parameters(data):
     return texts
 
 
-def field(data, kind, lowercase):
-    """A field: its octets, those of the canonical form, and its text."""
+def base32hex(octets):
+    """Base32hex without padding, in lower case (RFC 5155, 3.3; RFC 4648, 7)."""
+    bits = "".join(f"{octet:08b}" for octet in octets)
+    bits += "0" * (-len(bits) % 5)
+    return "".join("0123456789abcdefghijklmnopqrstuv"[int(bits[at:at + 5], 2)] for at in range(0, len(bits), 5))
+
+
+def other_field(data, kind):
+    """The text of a field of those that `any` alone has, None where it has none."""
+    if kind == "S":
+        strings = []
+        while data.place < data.end or not strings:
+            strings.append('"' + spelled(data.take(data.number(1)), b'"\\') + '"')
+        return " ".join(strings)
+    if kind == "o":
+        return '"' + spelled(data.take(data.number(1)), b'"\\') + '"' if data.place < data.end else ""
+    if kind in "hH":
+        octets = data.take(data.number(1))
+        if kind == "H" and not octets:
+            raise Refused("hash without an octet")
+        return base32hex(octets) if kind == "H" else octets.hex() or "-"
+    if kind == "M":
+        return " ".join(map(type_text, bitmaps(data))) if data.place < data.end else ""
+    data.take({"6": 6, "8": 8}[kind] if kind in "68" else data.number(2) if kind == "B" else data.end - data.place)
+    return None
+
+
+def field(data, kind, lowercase, special=b" .\\"):
+    """A field: its octets, those of the canonical form, and its text, None where it has none."""
     if kind in "nw":
         labels = data.name()
-        return name_octets(labels), name_octets([label.lower() if lowercase else label for label in labels]), name_text(labels)
+        canonical = [label.lower() if lowercase else label for label in labels]
+        return name_octets(labels), name_octets(canonical), name_text(labels, special)
     start = data.place
     if kind in "aA":
         text = of_a(data) if kind == "a" else of_aaaa(data)
@@ -281,6 +347,8 @@ def field(data, kind, lowercase):
         raise Refused("record data too long")
     elif kind == "m":
         text = " ".join(type_text(number) for number in bitmaps(data))
+    elif kind in "SohHM68By":
+        text = other_field(data, kind)
     elif kind == "v":
         text = " ".join(parameters(data))
     elif kind in "xbq":
@@ -292,24 +360,35 @@ def field(data, kind, lowercase):
     return octets, octets, text
 
 
+def text_of(shape, texts, whole):
+    """The text of data: its fields, a word that is absent left out; or its octets, where a field has no text, or is empty that
+    must not be."""
+    if any(text is None or text == "" and kind not in "oMv" for kind, text in zip(shape, texts)):
+        return unknown_text(whole)
+    return " ".join(text for text in texts if text)
+
+
+def unknown_text(whole):
+    return "\\# " + " ".join([str(len(whole))] + ["%02x" % octet for octet in whole])
+
+
 def of_any(rtype, data, shapes):
     """Data of any type: its octets, the canonical form or None, the length where it is known, and its text."""
+    whole = data.octets[data.place:data.end]
+    if shapes is ALL and len(whole) > 65535:
+        raise Refused("record data too long")
     if rtype in shapes:
         shape = shapes[rtype]
-        composed, canonical, texts = zip(*(field(data, kind, rtype in LOWERCASE) for kind in shape))
+        special = OF_ZONES if shapes is ALL else b" .\\"
+        composed, canonical, texts = zip(*(field(data, kind, rtype in LOWERCASE, special) for kind in shape))
         if data.place < data.end:
             raise Refused("trailing data")
         length = "-" if "n" in shape else str(sum(map(len, composed)))
-        text = " ".join(texts)
-        # Where there are no parameters there is no space after the target.
-        return b"".join(composed), b"".join(canonical), length, text.rstrip(" ") if shape.endswith("v") else text
-    whole = data.octets[data.place:data.end]
+        text = text_of(shape, texts, whole) if shapes is ALL else " ".join(texts)
+        return b"".join(composed), b"".join(canonical), length, text
     if len(whole) > 65535:
         raise Refused("record data too long")
-    if rtype == 16:
-        return whole, whole, str(len(whole)), of_txt(data)
-    text = "\\# " + " ".join([str(len(whole))] + ["%02x" % octet for octet in whole])
-    return whole, None if rtype in LOWERCASE else whole, str(len(whole)), text
+    return whole, None if rtype in LOWERCASE else whole, str(len(whole)), unknown_text(whole)
 
 
 def any_answer(fields, shapes):
@@ -333,16 +412,11 @@ def any_answer(fields, shapes):
     return f"ok {shown[0]} {shown[1]} {length} {text}"
 
 
-def compared(rtype, octets, shapes):
-    """What data of any type is ordered by, and what it is equal by: the type, and the octets of the canonical form, or those
-    with all names in lowercase."""
-    data = Reader(octets, 0, len(octets))
-    if rtype not in shapes:
-        whole = of_any(rtype, data, shapes)[0]
-        return (rtype, whole), (rtype, whole)
-    of_any(rtype, Reader(octets, 0, len(octets)), shapes)
-    composed, lowercase, _texts = zip(*(field(data, kind, True) for kind in shapes[rtype]))
-    return (rtype, b"".join(lowercase if rtype in LOWERCASE else composed)), (rtype, b"".join(lowercase))
+def compared(rtype, octets):
+    """What data of any type is compared by: the type, and the octets of the canonical form, or unchanged where that isn't
+    known (RFC 4034, 6.2 and 6.3)."""
+    composed, canonical, _length, _text = of_any(rtype, Reader(octets, 0, len(octets)), ALL)
+    return rtype, composed if canonical is None else canonical
 
 
 def order_answer(fields):
@@ -356,14 +430,14 @@ def order_answer(fields):
     faults, read = [], []
     for rtype, octets in both:
         try:
-            read.append(compared(rtype, octets, ALL))
+            read.append(compared(rtype, octets))
         except Refused as why:
             faults.append(f"err {why}")
     if faults:
         return "".join(faults)
-    (first, mine), (second, yours) = read
+    first, second = read
     order = "less" if first < second else "greater" if first > second else "equal"
-    return f"{order} {'same' if mine == yours else 'other'}"
+    return f"{order} {'same' if first == second else 'other'}"
 
 
 class Message:
@@ -417,8 +491,8 @@ def read_all(message):
     """Reads each entry of a message, and the data of each record."""
     reader = message.questions()[1]
     for _record in range(sum(message.counts[1:])):
-        _owner, rtype, _rclass, _ttl, data = reader.record()
-        of_any(rtype, data, TYPED if rtype == 35 else SHAPES)
+        _owner, rtype, rclass, _ttl, data = reader.record()
+        of_any(rtype, data, ALL if rclass == 1 or rtype not in OF_IN else {})
 
 
 def unread_answer(octets):

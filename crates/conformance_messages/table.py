@@ -11,6 +11,7 @@ Parts of answers that stand here beside their line must be in what is answered.
 
 With --random it prints lines of so many random and mutated messages, always the same for a SEED.
 """
+import base64
 import ipaddress
 import itertools
 import os
@@ -435,8 +436,35 @@ ANY = (
     (26, u16(50) + name("ab.net2.it.") + name("O-ab.PRMD-net2.ADMDb.C-it."), "50 ab.net2.it. O-ab.PRMD-net2.ADMDb.C-it."),
     (36, u16(2) + name("rodney-KX.iana.org."), "2 rodney-KX.iana.org."),
     (13, b"\1a\1b", '"a" "b"'), (35, u16(1) + u16(2) + b"\0\0\0" + name("A."), '1 2 "" "" "" A.'),
-    (16, b"\1a\0", '"a" ""'), (1, b"\1\2\3\4", "1.2.3.4"), (24, b"\0\1", "\\# 2 00 01"), (47, name("B.") + b"\0\1\x40", "B. A"),
-    (65280, b"", "\\# 0"), (99, b"\xff", "\\# 1 ff"),
+    (16, b"\1a\0", '"a" ""'), (1, b"\1\2\3\4", "1.2.3.4"), (24, b"\0\1", second.SHORT), (47, name("B.") + b"\0\1\x40", "B. A"),
+    (65280, b"", "\\# 0"), (99, b"\xff", second.SHORT),
+)
+
+HASH = bytes.fromhex("174eb2409fe28bcb4887a1836f957f0a8425e27b")
+DIGEST = bytes(range(200, 248))
+# The same of types that `any` alone knows, and of data that has the form of RFC 3597, 5: of a kind without a form of its own,
+# or with a field without octets that must have some.
+LATER = (
+    (2, b'\7a;"()@$\0', 'a\\;\\"\\(\\)\\@\\$.'), (12, b"\3a b\0", "a\\ b."),
+    (19, b"\x0c311061700956", '"311061700956"'), (20, b"\x0f150862028003217\x03004", '"150862028003217" "004"'),
+    (20, b"\x0f150862028003217", '"150862028003217"'), (27, b"\x08-32.6882\x08116.8652\x0410.0", '"-32.6882" "116.8652" "10.0"'),
+    (24, u16(30) + b"\1\3" + u32(3600) + u32(852174245) + u32(850298948) + u16(21435) + name("Foo.nil.") + b"\1\2\3",
+     "NXT 1 3 3600 19970102030405 19961211100908 21435 Foo.nil. AQID"),
+    (25, u16(512) + b"\3\1\1\2\3", "512 3 1 AQID"), (30, name("Big.foo.tld.") + b"\x62", "\\# 14 03 42 69 67 03 66 6f 6f 03 74 6c 64 00 62"),
+    (37, u16(1) + u16(12179) + b"\3\xff\xfe", "1 12179 3 //4="), (49, base64.b64decode("AAIBY2/AuCccgoJbsaxcQc9TUapptP69lOjxfNuVAA2kjEA="),
+     " AAIBY2/AuCccgoJbsaxcQc9TUapptP69lOjxfNuVAA2kjEA="),
+    (50, b"\1\1\0\x0c\4\xaa\xbb\xcc\xdd\x14" + HASH + b"\0\7\x22\1\0\0\0\2\x90",
+     "1 1 12 aabbccdd 2t7b4g4vsa5smi47k61mv5bv1a22bojr NS SOA MX RRSIG DNSKEY NSEC3PARAM"),
+    (50, b"\1\0\0\0\0\x14" + HASH, "1 0 0 - 2t7b4g4vsa5smi47k61mv5bv1a22bojr"), (50, b"\1\0\0\0\0\1f\0\1\x40", "1 0 0 - co A"),
+    (50, b"\1\0\0\0\0\0", "hash without an octet"), (51, b"\1\0\0\x0c\4\xaa\xbb\xcc\xdd", "1 0 12 aabbccdd"), (51, b"\1\0\0\0\0", "1 0 0 -"),
+    (53, b"\3\1\0\xc6\x80", "3 1 0 c680"), (58, name("A.") + name("b."), "A. b."), (59, u16(60485) + b"\5\1\x2b\xb1", "60485 5 1 2bb1"),
+    (59, u16(0) + b"\0\0\0", "0 0 0 00"), (60, u16(0) + b"\3\0\0", "0 3 0 AA=="), (60, u16(0) + b"\3\0", "\\# 4 00 00 03 00"),
+    (61, b"\x98\x33\4", "mDME"), (61, b"", "\\# 0"), (62, u32(66) + u16(3) + b"\0\4\x60\0\0\x08", "66 3 A NS AAAA"), (62, u32(66) + u16(3), "66 3"),
+    (63, u32(2018031900) + b"\1\1" + DIGEST, "2018031900 1 1 " + DIGEST.hex()), (104, u16(10) + bytes(range(8)), "\\# 10 00 0a 00 01 02 03 04 05 06 07"),
+    (105, u16(10) + b"\x0a\1\2\0", "10 10.1.2.0"), (107, u16(10) + name("l64-subnet1.example.com."), "10 l64-subnet1.example.com."),
+    (108, b"\0\0\x5e\0\x53\x2a", "\\# 6 00 00 5e 00 53 2a"), (249, name("a.") + bytes(12) + b"\0\1\1\0\0", "\\# 20 01 61 00 "),
+    (250, name("a.") + bytes(8) + b"\0\1\1" + bytes(6), "\\# 20 01 61 00 "), (256, u16(10) + u16(1) + b"ftp://ftp1.example.com/public",
+     '10 1 "ftp://ftp1.example.com/public"'), (32769, u16(60485) + b"\5\1\x2b\xb1", "60485 5 1 2bb1"), (99, b"\6v=spf1\0", '"v=spf1" ""'),
 )
 
 
@@ -448,13 +476,21 @@ def any_rows():
             row("any", rtype, octets, 0, size)
         for more in (1, 255):
             row("any", rtype, octets + b"\1" * more, 0, len(octets) + more)
-        row("any", rtype, b"\xff" + octets + b"\xff", 1, len(octets), told="ok " + (octets.hex() or "-") + " ")
+        told = "err " if text == second.SHORT else "ok " + (octets.hex() or "-") + " "
+        row("any", rtype, b"\xff" + octets + b"\xff", 1, len(octets), told=told)
     for rtype, octets, text in TYPED:
-        row("any", rtype, octets, 0, len(octets), told=" " + text)
+        # A last field without octets has no word: then the data has the form of RFC 3597, 5.
+        row("any", rtype, octets, 0, len(octets), told=f" \\# {len(octets)} " if text.endswith(" ") else " " + text)
         row("any", rtype, octets, 0, len(octets) - 1)
     for rtype, octets, _text in ANY + tuple((rtype, octets, "") for rtype, octets in OF_TYPE.items()):
         for other in (*second.SHAPES, 16, 24, 46, 99):
             row("any", other, octets, 0, len(octets))
+    topic("data of any type: of types that no other line asks, cut and too long, and without a form of their own")
+    for rtype, octets, text in LATER:
+        row("any", rtype, octets, 0, len(octets), told=text)
+        for size in range(len(octets)):
+            row("any", rtype, octets, 0, size)
+        row("any", rtype, octets + b"\1", 0, len(octets) + 1)
     topic("data of any type: names with pointers, in capitals")
     before = header() + name("WWW.Example.com.")
     at = len(before)
@@ -654,16 +690,19 @@ def order_rows():
     topic("data of any type: the order of two, and whether they are equal")
     data = [(rtype, octets) for rtype, octets, _text in ANY + TYPED] + list(OF_TYPE.items())
     for (rtype, octets), (other, octets_of_other) in zip(data, data[1:] + data[:1]):
-        row("order", rtype, octets, rtype, octets, told="equal same")
+        row("order", rtype, octets, rtype, octets, told="err " if (rtype, octets, second.SHORT) in ANY else "equal same")
         row("order", rtype, octets, rtype, octets.swapcase())
         row("order", other, octets_of_other, rtype, octets)
         row("order", rtype, octets[:-1], rtype, octets)
-    for rtype, before, told in ((MX, u16(10), "equal same"), (33, u16(1) + u16(2) + u16(3), "equal same"), (64, u16(1), "less same")):
+    for rtype, before, told in ((MX, u16(10), "equal same"), (33, u16(1) + u16(2) + u16(3), "equal same"), (64, u16(1), "less other")):
         row("order", rtype, before + name("A."), rtype, before + name("a."), told=told)
-    row("order", 47, name("A.") + b"\0\1\x40", 47, name("a.") + b"\0\1\x40", told="less same")
+    row("order", 47, name("A.") + b"\0\1\x40", 47, name("a.") + b"\0\1\x40", told="less other")
     row("order", TXT, b"\1a", TXT, b"\1A", told="greater other")
     row("order", PRIVATE, b"a", PRIVATE, b"ab", told="less other")
     row("order", NS, b"\1b\0", NS, b"\2aa\0", told="less other")
+    for rtype, octets, text in LATER:
+        row("order", rtype, octets, rtype, octets, told="equal same" if text != "hash without an octet" else "err ")
+        row("order", rtype, octets.swapcase(), rtype, octets)
     rng = random.Random(5)
     for _row in range(600):
         rtype, octets = rng.choice(data)

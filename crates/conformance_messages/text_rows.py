@@ -152,6 +152,8 @@ def number_rows():
         row(65280, f"\\# {text} 00")
         row(A, f"\\# {text}")
     row(SOA, ". . 1h 2 3 4 5", err="4 Number")
+    for text, numbers in ((". . 1 1h 15M 2w 1d", (1, 3600, 900, 1209600, 86400)), (". . 1 2 3 1W2D 5", (1, 2, 3, 777600, 5))):
+        row(SOA, text, b"\0\0" + b"".join(it.to_bytes(4, "big") for it in numbers))
 
 
 def address_rows():
@@ -441,8 +443,8 @@ def shown_rows(lines, answers):
         elif rtype not in FORMS:
             row(rtype, text)
         else:
-            # In a name a quote and a semicolon stand for themselves as it is shown, and not as it is read.
-            is_plain = "n" not in FORMS[rtype] or not set(text) & set('";')
+            # In a name of `typed` a quote and a semicolon stand for themselves as it is shown, and not as it is read.
+            is_plain = word == "any" or "n" not in FORMS[rtype] or not set(text) & set('";')
             row(rtype, text, octets if is_plain else None)
 
 

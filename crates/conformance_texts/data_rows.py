@@ -250,6 +250,12 @@ READINGS = [
     (15, b"00010\n\tmail. ; first\n", b"\x00\n\x04mail\x00"),
     (6, b"a. b. ; names\n 1 ; serial\n 2\r\n3\t4 5",
      b"\x01a\x00\x01b\x00\x00\x00\x00\x01\x00\x00\x00\x02\x00\x00\x00\x03\x00\x00\x00\x04\x00\x00\x00\x05"),
+    (6, b"a. b. 1 1h 15M 2w 1d", b"\x01a\x00\x01b\x00" + struct.pack(">5I", 1, 3600, 900, 1209600, 86400)),
+    (6, b"a. b. 1 1h30m 0s 1W2d3H4m5s 4294967295",
+     b"\x01a\x00\x01b\x00" + struct.pack(">5I", 1, 5400, 0, 788645, 4294967295)),
+    (6, b"a. b. 1 2147483647s 35791394m7s 2147483648 00s",
+     b"\x01a\x00\x01b\x00" + struct.pack(">5I", 1, 2147483647, 2147483647, 2147483648, 0)),
+    (46, b"A 5 3 24h 20030322173103 20030220173103 2642 example.com. " + SIGNATURE, b"\x00\x01" + SIGNED_OCTETS),
     (43, b"60485 5 1 2BB183AF5F22588179A53B0A 98631FAD1A292118",
      b'\xecE\x05\x01+\xb1\x83\xaf_"X\x81y\xa5;\n\x98c\x1f\xad\x1a)!\x18'),
     (44, b"2 1 aB Cd ; digits\n eF", b"\x02\x01\xab\xcd\xef"),
@@ -366,6 +372,14 @@ FAULTS = [
     (20, b"150862028003217 004 5", 20, "ExtraWord"),
     (20, b'150862028003217 "00"4', 16, "CharString"),
     (108, b"00-00-5e-00-53-2a", 0, "OnlyGeneric"),
+    (6, b"a. b. 1h 2 3 4 5", 6, "Number"),
+    (6, b"a. b. 1 1h30 3 4 5", 8, "Number"),
+    (6, b"a. b. 1 1hh 3 4 5", 8, "Number"),
+    (6, b"a. b. 1 2 1y 4 5", 10, "Number"),
+    (6, b"a. b. 1 2 3 2147483648s 5", 12, "Number"),
+    (6, b"a. b. 1 2 3 4 35791394m8s", 14, "Number"),
+    (6, b'a. b. 1 2 3 4 "5h"', 14, "Number"),
+    (6, b"a. b. 1 2 3 4 5\\h", 14, "Number"),
     (15, b"65536 mail", 0, "Number"),
     (15, b"x mail. (", 8, "Parenthesis"),
     (1, b"\\# x 0", 3, "Number"),
@@ -453,10 +467,10 @@ SIGNATURE_FAULTS = [
 # 5155 (NSEC3, NSEC3PARAM). 6698 (TLSA). 8162 (SMIMEA). 7344 (CDS, CDNSKEY). 7929 (OPENPGPKEY). 7477 (CSYNC). 8976
 # (ZONEMD). 7208 (SPF). 6742 (L32, LP). 7553 (URI). 8659 (CAA). 4431 (DLV). TALINK and AVC are of IANA's registry.
 FIELDS = {
-    1: "a", 2: "n", 3: "n", 4: "n", 5: "n", 6: "nn44444", 7: "n", 8: "n", 9: "n", 12: "n", 13: "ss", 14: "nn",
-    15: "2n", 16: "S", 17: "nn", 18: "2n", 19: "s", 20: "so", 21: "2n", 24: "R114TT2nb", 25: "211b", 26: "2nn",
+    1: "a", 2: "n", 3: "n", 4: "n", 5: "n", 6: "nn4LLLL", 7: "n", 8: "n", 9: "n", 12: "n", 13: "ss", 14: "nn",
+    15: "2n", 16: "S", 17: "nn", 18: "2n", 19: "s", 20: "so", 21: "2n", 24: "R11LTT2nb", 25: "211b", 26: "2nn",
     27: "sss", 28: "A", 33: "222n", 35: "22sssn", 36: "2n", 37: "221b", 39: "n", 43: "211h", 44: "11h",
-    46: "R114TT2nb", 47: "nB", 48: "211b", 49: "b", 50: "112HXO", 51: "112H", 52: "111h", 53: "111h", 58: "nn",
+    46: "R11LTT2nb", 47: "nB", 48: "211b", 49: "b", 50: "112HXO", 51: "112H", 52: "111h", 53: "111h", 58: "nn",
     59: "211h", 60: "211b", 61: "b", 62: "42O", 63: "411h", 99: "S", 105: "2a", 107: "2n", 256: "22q", 257: "1tq",
     258: "S", 32769: "211h",
 }
@@ -472,6 +486,8 @@ KINDS = {
     "1": ((b"7", b"\x07"), "Number", (b"x", b"-1", b"256", b'"7"', b"\\055", b"1h", b"0x7")),
     "2": ((b"300", b"\x01\x2c"), "Number", (b"x", b"+1", b"65536", b'"7"', b"1d", b"3.0", b"18446744073709551616")),
     "4": ((b"70000", b"\0\x01\x11\x70"), "Number", (b"x", b"-0", b"4294967296", b'""', b"1h30m", b"7e3")),
+    "L": ((b"70000", b"\0\x01\x11\x70"), "Number",
+          (b"x", b"-0", b"4294967296", b'""', b"1h30", b"h", b"2147483648s", b"7e3")),
     "T": ((b"1048354263", b"\x3e\x7c\x9d\xd7"), "Time", (b"x", b"4294967296", b"20010229000000", b"now", b'"7"')),
     "R": ((b"MX", b"\0\x0f"), "Rtype", (b"TYPE65536", b"NONESUCH", b"15", b'"MX"', b"M\\088", b"TYPE", b"MX1")),
     "a": ((b"192.0.2.1", b"\xc0\0\x02\x01"), "Ipv4",
@@ -500,6 +516,8 @@ KINDS = {
     "P": ((None, b"\0\x01\0\x03\x02h2\0\x03\0\x02\x01\xbb"), None, ()),
     "*": ((None, b"\x01\x02\x03"), None, ()),
 }
+# How many octets a number of each kind has
+SIZES_OF_NUMBERS = {"1": 1, "2": 2, "4": 4, "L": 4}
 # The mnemonics of types (IANA's registry of DNS parameters).
 MNEMONICS = {
     1: "A NS MD MF CNAME SOA MB MG MR NULL WKS PTR HINFO MINFO MX TXT RP AFSDB X25 ISDN RT NSAP NSAP-PTR SIG KEY PX "
@@ -622,9 +640,9 @@ def number_rows(rtype, kinds):
     """Numbers at and past their limits, and with zeros before their digits."""
     fields = worked(kinds)
     for place, kind in enumerate(kinds):
-        if kind not in "124":
+        if kind not in SIZES_OF_NUMBERS:
             continue
-        size, before = int(kind), text_of(fields[:place])
+        size, before = SIZES_OF_NUMBERS[kind], text_of(fields[:place])
         limit = 256**size
         for value in (0, 1, limit // 2 - 1, limit // 2, limit - 1, limit, limit + 1, 10 * limit, 2**64, 2**64 + 1):
             for text in (b"%d" % value, b"00%d" % value):
@@ -1265,8 +1283,8 @@ def drawn_plain(draw, kind):
 
 def drawn_field(draw, kind):
     """A text of a field and its octets."""
-    if kind in "124T":
-        size = 4 if kind == "T" else int(kind)
+    if kind == "T" or kind in SIZES_OF_NUMBERS:
+        size = SIZES_OF_NUMBERS.get(kind, 4)
         value = drawn_number(draw, size)
         return b"%d" % value, value.to_bytes(size, "big")
     if kind == "R":
@@ -1336,7 +1354,7 @@ def spelled_octet(draw, octet, is_free):
 
 def spelled(draw, kind, text, octets):
     """A field in another spelling."""
-    if kind in "124" and draw.random() < 0.2:
+    if kind in SIZES_OF_NUMBERS and draw.random() < 0.2:
         return b"0" * draw.randrange(1, 4) + text
     if kind == "T" and draw.random() < 0.5:
         moment = datetime.datetime(1970, 1, 1) + datetime.timedelta(seconds=int(text))

@@ -19,7 +19,7 @@ import itertools
 import re
 import sys
 import time
-from typing import NamedTuple
+from typing import NamedTuple, Optional
 
 import dns.dnssectypes
 import dns.exception
@@ -82,13 +82,14 @@ def words_of(text):
 
 
 class Text(NamedTuple):
-    """A text of data as it is said to dnspython, and what changes its octets afterwards."""
+    """A text of data as it is said to dnspython, what changes its octets afterwards, and the origin of its names."""
 
     rtype: int
     rclass: int
     octets: bytes
     back: tuple = ()
     encoding: str = "utf-8"
+    origin: Optional[dns.name.Name] = None
 
     def words(self):
         """The words of the text, None where it isn't words, white space and comments alone."""
@@ -119,10 +120,11 @@ class Text(NamedTuple):
         return self._replace(octets=text) if text != self.octets else None
 
     def answer(self):
-        """The octets that dnspython makes of it, None where it refuses it."""
+        """The octets that dnspython makes of it, None where it refuses it. Octets after the mark have no origin: with
+        one dnspython refuses names below it."""
         try:
-            text = self.octets.decode(self.encoding, "surrogateescape")
-            rdata = dns.rdata.from_text(self.rclass, self.rtype, text, relativize=False)
+            text, origin = self.octets.decode(self.encoding, "surrogateescape"), None if self.is_generic() else self.origin
+            rdata = dns.rdata.from_text(self.rclass, self.rtype, text, origin, relativize=False)
             if self.encoding == "latin-1":
                 values = {it: getattr(rdata, it).decode().encode("latin-1") for it in OF_UTF8[self.rtype]}
                 rdata = rdata.replace(**values)
@@ -674,7 +676,7 @@ ONE_SIDED = (
      lambda it: it.is_of_digits() and re.search(rb'["\\]', it.word)),
     ("a number has no sign", "RFC 1035, 5.1",
      lambda it: it.reason == it.due == "Number" and it.word[:1] in (b"+", b"-")),
-    ("a number in data has no unit", "RFC 1035, 3.3.13; RFC 4034, 3.2",
+    ("a TTL with units has at most 2^31 - 1 seconds", "RFC 2181, 8",
      lambda it: it.reason == it.due == "Number" and re.fullmatch(rb"(?:[0-9]+[wdhmsWDHMS])+", it.word)),
     ("algorithms and certificates are numbers, not mnemonics", "RFC 4034, 2.2 and RFC 4398, 2.2 allow these",
      lambda it: it.reason == it.due == "Number" and it.word.decode("latin-1").upper() in (*ALGORITHMS, *CERTIFICATES)),
@@ -893,7 +895,7 @@ class Comparison:
         rclass, rtype = (int(it) for it in head.split(b"/")[2:])
         if self.head(entry) != head:
             return False
-        row = Text(rtype, rclass, entry.joined[entry.head()[3]:])
+        row = Text(rtype, rclass, entry.joined[entry.head()[3]:], origin=self.zone.reader.current_origin)
         found = difference(row, TEXT_TURNS, data)
         self.found |= {ONE_LINE, *(it[:2] for it in found or ())}
         return found is not None
@@ -934,7 +936,8 @@ class Comparison:
             return self.head(entry) is not None
         _owner, between, word, begin = entry.head()
         classes = [class_of(it) for it in between if class_of(it) is not None]
-        row = Text(type_of(word) or 0, (classes or [self.rclass])[0], entry.joined[begin:])
+        rclass, origin = (classes or [self.rclass])[0], self.zone.reader.current_origin
+        row = Text(type_of(word) or 0, rclass, entry.joined[begin:], origin=origin)
         found = difference(row, TEXT_TURNS, b"err %d %s" % (at - entry.begin - begin, reason[5:].encode()))
         self.found |= {it[:2] for it in found or ()}
         return found is None

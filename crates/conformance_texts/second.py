@@ -119,6 +119,11 @@ MOST_NAME, MOST_LABEL, MOST_POINTERS, MOST_STRING, MOST_BITMAP, MOST_DATA = 255,
 SPACE = re.compile(rb"(?:[ \t\r\n]|;[^\n]*)*")
 WORD = re.compile(rb'(?:\\.|"(?:\\.|[^\\"])*"|[^\\" \t\r\n;()])+', re.S)
 SYMBOL = re.compile(rb"\\([0-9]{3})|\\([^0-9])|([^\\])", re.S)
+# A TTL: seconds, or numbers with units, at most 2^31 - 1 seconds (RFC 2181, 8)
+TTL = re.compile(rb"[0-9]+|(?:[0-9]+[wdhms])+", re.I)
+TTL_PART = re.compile(rb"([0-9]+)([wdhms]?)", re.I)
+SECONDS = {b"w": 604800, b"d": 86400, b"h": 3600, b"m": 60, b"s": 1}
+MOST_TTL = 2**31 - 1
 # A quote and a dot without a backslash, as `symbols` returns them
 QUOTE, DOT = (ord('"'), False), (ord("."), False)
 GENERIC = rb"\#"
@@ -212,6 +217,26 @@ def number_octets(word, size):
     return None if number is None else number.to_bytes(size, "big")
 
 
+def whole(digits):
+    """The number that decimal digits are, or 10 ** 11 where it has more than 11 digits."""
+    digits = digits.lstrip(b"0") or b"0"
+    return int(digits) if len(digits) <= 11 else 10**11
+
+
+def ttl_of(word):
+    """The seconds that a word states, or None: digits, or numbers each with a unit. RFC 2181, 8 has the limit."""
+    if not TTL.fullmatch(word):
+        return None
+    seconds = sum(whole(digits) * SECONDS[unit.lower() or b"s"] for digits, unit in TTL_PART.findall(word))
+    return seconds if seconds <= MOST_TTL else None
+
+
+def ttl_octets(word):
+    """Returns the seconds of a TTL in data: a number of 32 bits, or numbers with units (as NSD and dnspython)."""
+    seconds = ttl_of(word)
+    return number_octets(word, 4) if seconds is None else seconds.to_bytes(4, "big")
+
+
 def time_octets(word):
     """Returns a point in time: the seconds since 1970, or a date and a time of day in 14 digits (RFC 4034, 3.2)."""
     if len(word) != 14:
@@ -272,23 +297,27 @@ def ipv6_octets(word):
     return front + bytes(zeros) + back
 
 
-def name_octets(word):
-    """Returns an absolute name, which has its final dot (RFC 1035, 3.1 and 5.1)."""
-    if word == b".":
-        return b"\0"
+def name_octets(word, origin=None):
+    """Returns a name (RFC 1035, 3.1 and 5.1). Without its final dot it goes on with the origin, and `@` alone is the
+    origin, if there is one."""
+    if word in (b"@", b"."):
+        return origin if word == b"@" else b"\0"
     parts = symbols(word)
-    if parts is None or QUOTE in parts or parts[-1] != DOT:
+    if parts is None or QUOTE in parts:
         return None
-    octets, label = b"", []
+    labels = [[]]
     for part in parts:
-        if part != DOT:
-            label.append(part)
-            continue
-        if not 1 <= len(label) <= MOST_LABEL:
-            return None
-        octets += bytes([len(label)]) + octets_in(label)
-        label = []
-    return octets + b"\0" if len(octets) < MOST_NAME else None
+        if part == DOT:
+            labels.append([])
+        else:
+            labels[-1].append(part)
+    if parts[-1] == DOT:
+        labels.pop()
+        origin = b"\0"
+    if origin is None or not all(1 <= len(label) <= MOST_LABEL for label in labels):
+        return None
+    octets = b"".join(bytes([len(label)]) + octets_in(label) for label in labels) + origin
+    return octets if len(octets) <= MOST_NAME else None
 
 
 def text_octets(word):
@@ -345,7 +374,7 @@ WORD_FORMS = {
     "Number8": (lambda word: number_octets(word, 1), "Number"),
     "Number16": (lambda word: number_octets(word, 2), "Number"),
     "Number32": (lambda word: number_octets(word, 4), "Number"),
-    "Ttl": (lambda word: number_octets(word, 4), "Number"),
+    "Ttl": (ttl_octets, "Number"),
     "Serial": (lambda word: number_octets(word, 4), "Number"),
     "Time": (time_octets, "Time"),
     "Rtype": (rtype_octets, "Rtype"),
@@ -419,8 +448,8 @@ END_FORMS = {
 ABSENT = ("OptionalString", "OptionalTypeBitmaps")
 
 
-def read_field(kind, words):
-    """Returns the octets of the field that words begin with, and the words after it."""
+def read_field(kind, words, origin):
+    """Returns the octets of the field that words begin with, and the words after it. Names go on with the origin."""
     if not words and kind in ABSENT:
         return b"", []
     begin, word = words[0]
@@ -429,7 +458,7 @@ def read_field(kind, words):
     if kind not in WORD_FORMS:
         raise Refused(begin, "OnlyGeneric")
     form, reason = WORD_FORMS[kind]
-    octets = form(word)
+    octets = form(word, origin) if kind == "Name" else form(word)
     if octets is None:
         raise Refused(begin, reason)
     return octets, words[1:]
@@ -451,8 +480,9 @@ def read_generic(rtype, rclass, words, end):
     return octets
 
 
-def read(rtype, rclass, text):
-    """Returns the octets of the data that a text says, without compressed names (RFC 1035, 5.1; RFC 3597, 5)."""
+def read(rtype, rclass, text, origin=None):
+    """Returns the octets of the data that a text says, without compressed names (RFC 1035, 5.1; RFC 3597, 5). Without
+    an origin each name has its final dot."""
     words = split_words(text)
     if words and words[0][1] == GENERIC:
         return read_generic(rtype, rclass, words, len(text))
@@ -460,7 +490,7 @@ def read(rtype, rclass, text):
     for kind in kinds_of(rtype, rclass):
         if not words and kind not in ABSENT:
             raise Refused(len(text), "MissingWord")
-        octets, words = read_field(kind, words)
+        octets, words = read_field(kind, words, origin)
         data.append(octets)
     if words:
         raise Refused(words[0][0], "ExtraWord")

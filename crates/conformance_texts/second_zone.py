@@ -3,8 +3,8 @@
 
     second_zone.py < LINES
 
-It answers the lines `zone` of the table of texts, and any other line with `bad`. `second` reads the data of a record,
-and the mnemonic of a type. Where the RFCs leave a choice, it is as the README.md of `domain_zone_text` says.
+It answers the lines `zone` of the table of texts, and any other line with `bad`. `second` reads names, the data of a
+record and the mnemonic of a type. Where the RFCs leave a choice, it is as the README.md of `domain_zone_text` says.
 """
 import re
 import sys
@@ -15,8 +15,7 @@ import second
 
 IN = 1
 CLASSES = {b"IN": 1, b"CH": 3, b"HS": 4, b"NONE": 254, b"ANY": 255, b"*": 255}  # the registry of RFC 6895, 3.2
-MOST_LABEL, MOST_NAME, MOST_TTL = 63, 255, 2**31 - 1  # RFC 1035, 2.3.4; RFC 2181, 8
-SECONDS = {b"w": 604800, b"d": 86400, b"h": 3600, b"m": 60, b"s": 1}
+MOST_LABEL, MOST_NAME = 63, 255  # RFC 1035, 2.3.4
 OPENING, CLOSING, LINE_END, BACKSLASH = b"(", b")", b"\n", b"\\"
 
 # A part of a text that is read as a whole: an octet with its backslash, a string between quotes, a comment without the
@@ -24,10 +23,6 @@ OPENING, CLOSING, LINE_END, BACKSLASH = b"(", b")", b"\n", b"\\"
 PART = re.compile(rb'\\.|"(?:\\.|[^\\"])*"|;[^\n]*|[^\\"]', re.S)
 # A word, which is the group, or what is between two words: white space, or a comment
 TOKEN = re.compile(rb'[ \t\r\n]+|;[^\n]*|((?:\\.|"(?:\\.|[^\\"])*"|[^ \t\r\n;\\"])+)', re.S)
-# An octet of a name as it is spelled: its number in three digits, itself after a backslash, or itself
-SPELLED = re.compile(rb"\\([0-9]{3})|\\([^0-9])|([^\\])", re.S)
-TTL = re.compile(rb"[0-9]+|(?:[0-9]+[wdhms])+", re.I)
-TTL_PART = re.compile(rb"([0-9]+)([wdhms]?)", re.I)
 CLASS = re.compile(rb"CLASS([0-9]+)")
 
 
@@ -74,63 +69,13 @@ class Context:
         return self.stated_ttl if self.default_ttl is None else self.default_ttl
 
 
-def whole(digits):
-    """The number that decimal digits are, or 10 ** 11 where it has more than 11 digits."""
-    digits = digits.lstrip(b"0") or b"0"
-    return int(digits) if len(digits) <= 11 else 10**11
-
-
-def ttl_of(word):
-    """The seconds that a word states, or None: digits, or numbers each with a unit. RFC 2181, 8 has the limit."""
-    if not TTL.fullmatch(word):
-        return None
-    seconds = sum(whole(digits) * SECONDS[unit.lower() or b"s"] for digits, unit in TTL_PART.findall(word))
-    return seconds if seconds <= MOST_TTL else None
-
-
 def class_of(word):
     """The class that a word is, or None: a mnemonic, or CLASS and a number of 16 bits (RFC 3597, 5)."""
     numbered = CLASS.fullmatch(word.upper())
     if not numbered:
         return CLASSES.get(word.upper())
-    number = whole(numbered[1])
+    number = second.whole(numbered[1])
     return number if number <= 0xFFFF else None
-
-
-def spelled(word):
-    """The octets that a word spells, each with whether it is a dot between labels, or None (RFC 1035, 5.1). A quote in
-    a name has a backslash."""
-    octets, at = [], 0
-    while at < len(word):
-        found = SPELLED.match(word, at)
-        if not found or found[3] == b'"' or found[1] and int(found[1]) > 255:
-            return None
-        octet = int(found[1]) if found[1] else (found[2] or found[3])[0]
-        octets.append((octet, found[3] == b"."))
-        at = found.end()
-    return octets
-
-
-def name_of(word, origin):
-    """The name that a word is, in wire format, or None. A relative name goes on with the origin (RFC 1035, 5.1)."""
-    if word in (b"@", b"."):
-        return origin if word == b"@" else b"\0"
-    octets = spelled(word)
-    if octets is None:
-        return None
-    labels = [bytearray()]
-    for octet, is_dot in octets:
-        if is_dot:
-            labels.append(bytearray())
-        else:
-            labels[-1].append(octet)
-    is_absolute = octets[-1][1]
-    if is_absolute:
-        labels.pop()
-    if not all(1 <= len(label) <= MOST_LABEL for label in labels):
-        return None
-    name = b"".join(bytes([len(label)]) + label for label in labels) + (b"\0" if is_absolute else origin)
-    return name if len(name) <= MOST_NAME else None
 
 
 def cut_entry(text, start):
@@ -167,7 +112,7 @@ def words_of(entry, start):
 def read_name(place, context):
     """The name that the word at a place is, or its fault."""
     at, word = place
-    name = name_of(word, context.origin)
+    name = second.name_octets(word, context.origin)
     if name is None:
         raise Refused(at, "Name")
     return name
@@ -176,7 +121,7 @@ def read_name(place, context):
 def read_ttl(place):
     """The TTL that the word at a place is, or its fault."""
     at, word = place
-    ttl = ttl_of(word)
+    ttl = second.ttl_of(word)
     if ttl is None:
         raise Refused(at, "Ttl")
     return ttl
@@ -221,10 +166,11 @@ def read_head(words, end):
     raise Refused(end, "MissingType")
 
 
-def read_data(rtype, rclass, octets, at):
-    """The data of a record from the octets after its type, which are at an offset."""
+def read_data(rtype, rclass, octets, at, origin):
+    """The data of a record from the octets after its type, which are at an offset. Names in it go on with the origin
+    (RFC 1035, 5.1)."""
     try:
-        return second.read(rtype, rclass, octets)
+        return second.read(rtype, rclass, octets, origin)
     except second.Refused as refused:
         raise Refused(at + refused.at, f"Data/{refused.reason}") from None
 
@@ -247,7 +193,7 @@ def read_record(entry, start, words, context, is_omitted):
         raise Refused(at, "NoTtl")
     rclass = context.rclass if rclass is None else rclass
     begin = at + len(word)
-    data = read_data(rtype, rclass, entry[begin - start:], begin)
+    data = read_data(rtype, rclass, entry[begin - start:], begin, context.origin)
     context.owner, context.rclass = owner, rclass
     context.stated_ttl = context.stated_ttl if stated is None else stated
     return Record(owner, ttl, rclass, rtype, data)
@@ -299,7 +245,7 @@ def answer(line):
     word, *fields = line.split(b" ", 2 if line.startswith(b"zone ") else 1)
     try:
         if word == b"ttl" and len(fields) == 1:
-            ttl = ttl_of(second.text_of(fields[0]))
+            ttl = second.ttl_of(second.text_of(fields[0]))
             return "none" if ttl is None else str(ttl)
         if word == b"zone" and len(fields) == 2:
             origin, text = second.octets_of(fields[0]), second.text_of(fields[1])

@@ -126,20 +126,20 @@ ROOT_RECORDS = [
     ("A.ISI.EDU.", A, address("26.3.0.103")), ("C.ISI.EDU.", A, address("10.0.0.52")),
 ]
 
-# RFC 1035, 5.3: the zone ISI.EDU, and the file that it includes. Names in data are absolute here.
+# RFC 1035, 5.3: the zone ISI.EDU, and the file that it includes.
 ISI_ZONE = """\
-@   IN  SOA     VENERA.ISI.EDU.      Action\\.domains.ISI.EDU. (
+@   IN  SOA     VENERA      Action\\.domains (
                                  20     ; SERIAL
                                  7200   ; REFRESH
                                  600    ; RETRY
                                  3600000; EXPIRE
                                  60)    ; MINIMUM
 
-    NS      A.ISI.EDU.
-    NS      VENERA.ISI.EDU.
-    NS      VAXA.ISI.EDU.
-    MX      10      VENERA.ISI.EDU.
-    MX      20      VAXA.ISI.EDU.
+        NS      A.ISI.EDU.
+        NS      VENERA
+        NS      VAXA
+        MX      10      VENERA
+        MX      20      VAXA
 
 A       A       26.3.0.103
 
@@ -165,9 +165,9 @@ MAILBOXES = """\
     MOE     MB      A.ISI.EDU.
     LARRY   MB      A.ISI.EDU.
     CURLEY  MB      A.ISI.EDU.
-    STOOGES MG      MOE.ISI.EDU.
-            MG      LARRY.ISI.EDU.
-            MG      CURLEY.ISI.EDU.
+    STOOGES MG      MOE
+            MG      LARRY
+            MG      CURLEY
 """
 MAILBOX_RECORDS = [
     ("MOE.ISI.EDU.", MB, name("A.ISI.EDU.")), ("LARRY.ISI.EDU.", MB, name("A.ISI.EDU.")),
@@ -267,8 +267,8 @@ frobozz.example.  DNAME    frobozz-division.acme.example.
                   MX       10       mailhub.acme.example.
 $ORIGIN 0.192.in-addr.arpa.
 8/22    NS       ns.slash-22-holder.example.
-8       DNAME    8.8/22.0.192.in-addr.arpa.
-9       DNAME    9.8/22.0.192.in-addr.arpa.
+8       DNAME    8.8/22
+9       DNAME    9.8/22
 """
 RENAMED_RECORDS = [
     ("frobozz.example.", DNAME, name("frobozz-division.acme.example.")),
@@ -403,7 +403,9 @@ WORD_FAULTS = [
         "a 5 MX ^x b.", "a 5 MX ^65536 b.", "a 5 TYPE65280 \\# ^x", "a 5 MX (\n\n ^x b. )",
     ]),
     ("Data/Name", [
-        "a 5 MX 10 ^b", "a 5 NS ^@", "a 5 NS ^b..", "a 5 MX (\n10\n^b\n)",
+        "a 5 NS ^b..", "a 5 MX 10 ^.b", "a 5 MX (\n10\n^b..c\n)", "a 5 SOA @ ^b\\256 1 2 3 4 5", 'a 5 NS ^"b"',
+        'a 5 NS ^"@"', "a 5 NS ^@..", f"a 5 NS ^{64 * 'b'}", f"a 5 NS ^{'b.' * 124}b",
+        f"$ORIGIN {'b.' * 122}c\na. 5 MX 10 ^d",
     ]),
     ("Data/Ipv4", [
         "a 5 A ^1.2.3", "a 5 A ^1.2.3.256", "a 5 A (^x)", "a 5 A(^x)",
@@ -607,16 +609,21 @@ OWNERS = [
 
 
 def owner_rows(word, owner, origin=EXAMPLE):
-    """A word as an owner, in $ORIGIN and in $INCLUDE; without its wire format it isn't a name."""
+    """A word as an owner, in $ORIGIN, in $INCLUDE and in data; without its wire format it isn't a name."""
     if owner is None:
         return [refused(text, "Name", *before, origin=origin) for text, *before in (
             (f"^{word} 5 TXT x", ), (f"$ORIGIN ^{word}\n@ 5 TXT x", ), (f"$INCLUDE f ^{word}\n", ),
-            (f"a. 5 TXT x\n^{word} TXT y", text_at("a.")))]
+            (f"a. 5 TXT x\n^{word} TXT y", text_at("a.")))] + [
+                refused(f"a. 5 MX 10 ^{word}", "Data/Name", origin=origin),
+                refused(f"a. 5 SOA . ^{word} 1 2 3 4 5", "Data/Name", origin=origin)]
     return [
         row(f"{word} 5 TXT x", text_at(owner), origin=origin),
         row(f"{word} 5 TXT x\n\tTXT y", text_at(owner), text_at(owner, string="y"), origin=origin),
         row(f"$ORIGIN {word}\n@ 5 TXT x", text_at(owner), origin=origin),
         row(f"$INCLUDE f {word}", f"$INCLUDE/66/{owner.hex()}", origin=origin),
+        row(f"a. 5 MX 10 {word}", record("a.", 5, MX, numbers(2, 10) + owner), origin=origin),
+        row(f"$ORIGIN {word}\na. 5 NS @", record("a.", 5, NS, owner), origin=origin),
+        row(f"a. 5 SOA . {word} 1 2 3 4 5", record("a.", 5, SOA, soa(ROOT, owner, 1, 2, 3, 4, 5)), origin=origin),
     ]
 
 
@@ -757,7 +764,7 @@ PLACED = [
     ("a 1 TYPE65536 a\n", 1, 5, "Rtype"), ("\n 1 TXT a\n", 2, 1, "NoOwner"), ("a TXT a\n", 1, 3, "NoTtl"),
     ("$ORIGINS a\n", 1, 1, "Directive"), ("$TTL\n", 1, 5, "MissingWord"), ("$INCLUDE ; a\n", 1, 13, "MissingWord"),
     ("$TTL 1 2\n", 1, 8, "ExtraWord"), ("$INCLUDE a b c\n", 1, 14, "ExtraWord"),
-    ("\na 1 MX (10\n mail )\n", 3, 2, "Data/Name"), ("a 1 A\n", 1, 6, "Data/MissingWord"),
+    ("\na 1 MX (10\n mail..a )\n", 3, 2, "Data/Name"), ("a 1 A\n", 1, 6, "Data/MissingWord"),
 ]
 # Words, and the seconds that they are.
 TTL_WORDS = [
@@ -845,12 +852,20 @@ def drawn_name(draw):
     return b"".join(bytes([len(it)]) + it for it in labels), ".".join(spelled(draw, it) for it in labels)
 
 
-def drawn_host(draw):
-    """The wire format of an absolute name, and its text."""
-    if draw.random() < 0.1:
-        return ROOT, "."
+def drawn_word(draw, origin):
+    """The wire format of a name, and a word that it is after this origin: `@`, a relative name or an absolute one."""
+    kind = draw.random()
+    if kind < 0.15:
+        return origin, "@"
     labels, text = drawn_name(draw)
+    if kind < 0.7 and len(labels + origin) <= 255:
+        return labels + origin, text
     return labels + ROOT, text + "."
+
+
+def drawn_host(draw, origin):
+    """The same, or the root."""
+    return (ROOT, ".") if draw.random() < 0.1 else drawn_word(draw, origin)
 
 
 def drawn_number(draw, size):
@@ -879,13 +894,13 @@ def drawn_digits(draw, octets):
     return words
 
 
-def drawn_soa(draw):
-    parts = [drawn_host(draw), drawn_host(draw)] + [drawn_number(draw, 4) for _ in range(5)]
+def drawn_soa(draw, origin):
+    parts = [drawn_host(draw, origin), drawn_host(draw, origin)] + [drawn_number(draw, 4) for _ in range(5)]
     return b"".join(octets for octets, _ in parts), [text for _, text in parts]
 
 
-def drawn_fields(draw, rtype):
-    """The data of a type, and its words."""
+def drawn_fields(draw, rtype, origin):
+    """The data of a type, and its words after this origin."""
     if rtype == A:
         octets = draw.randbytes(4)
         return octets, [str(ipaddress.IPv4Address(octets))]
@@ -894,13 +909,13 @@ def drawn_fields(draw, rtype):
         return at.packed, [draw.choice((at.compressed, at.exploded, at.compressed.upper()))]
     if rtype in (NS, MX):
         preference, digits = drawn_number(draw, 2)
-        host, text = drawn_host(draw)
+        host, text = drawn_host(draw, origin)
         return (host, [text]) if rtype == NS else (preference + host, [digits, text])
     if rtype == TXT:
         parts = [drawn_string(draw) for _ in range(draw.randint(1, 3))]
         return b"".join(octets for octets, _ in parts), [text for _, text in parts]
     if rtype == SOA:
-        return drawn_soa(draw)
+        return drawn_soa(draw, origin)
     if rtype == CAA:
         flags, digits = drawn_number(draw, 1)
         tag, value = draw.choice(("issue", "issuewild", "iodef", "x1")), draw.choice(("ca.example", ";", "a; b=c", ""))
@@ -917,11 +932,12 @@ MNEMONICS = {A: "A", AAAA: "AAAA", NS: "NS", MX: "MX", TXT: "TXT", SOA: "SOA", C
 DRAWN_CLASSES = {IN: ("IN", "CLASS1"), CH: ("CH", "CLASS3"), HS: ("HS", "CLASS4"), 32: ("CLASS32", )}
 
 
-def drawn_data(draw, rclass):
-    """A type that has the same data in any class, or one of class IN; its word; its data, and the words of that."""
+def drawn_data(draw, rclass, origin):
+    """A type that has the same data in any class, or one of class IN; its word; its data, and the words of that after
+    this origin."""
     rtypes = [NS, MX, TXT, TXT, SOA, CAA, DS, PRIVATE] + ([A, A, AAAA] if rclass == IN else [])
     rtype = draw.choice(rtypes)
-    data, words = drawn_fields(draw, rtype)
+    data, words = drawn_fields(draw, rtype, origin)
     if draw.random() < 0.1:
         words = ["\\#", str(len(data)), *drawn_digits(draw, data)]
     number = f"TYPE{rtype}"
@@ -967,16 +983,6 @@ class DrawnZone:
         comment = f";{self.draw.choice(COMMENTS)}"
         self.text += self.draw.choice(("\n", "\n", "\n", "\r\n", " \n", f" {comment}\n", f"{comment}\r\n"))
 
-    def drawn_owner(self):
-        """A word that is a name, and the name."""
-        kind = self.draw.random()
-        if kind < 0.15:
-            return "@", self.origin
-        labels, text = drawn_name(self.draw)
-        if kind < 0.7 and len(labels + self.origin) <= 255:
-            return text, labels + self.origin
-        return text + ".", labels + ROOT
-
     def add_directive(self):
         kind, draw = self.draw.choice(("$TTL", "$TTL", "$ORIGIN", "$INCLUDE")), self.draw
         words = [cased(draw, kind)]
@@ -984,10 +990,10 @@ class DrawnZone:
             self.default_ttl, word = drawn_ttl(draw)
             words.append(word)
         elif kind == "$ORIGIN":
-            word, self.origin = self.drawn_owner()
+            self.origin, word = drawn_word(draw, self.origin)
             words.append(word)
         else:
-            file, (word, origin) = draw.choice(("a", "b/c.zone", '"d e"', '"(;)"')), self.drawn_owner()
+            file, (origin, word) = draw.choice(("a", "b/c.zone", '"d e"', '"(;)"')), drawn_word(draw, self.origin)
             is_named = draw.random() < 0.5
             words += [file, word] if is_named else [file]
             self.answers.append(f"$INCLUDE/{file.encode().hex()}/{origin.hex() if is_named else '.'}")
@@ -997,7 +1003,7 @@ class DrawnZone:
     def add_record(self):
         draw, owner = self.draw, ""
         if self.owner is None or draw.random() < 0.6:
-            owner, self.owner = self.drawn_owner()
+            self.owner, owner = drawn_word(draw, self.origin)
         head, ttl = [], self.stated_ttl if self.default_ttl is None else self.default_ttl
         if ttl is None or draw.random() < 0.4:
             ttl, word = drawn_ttl(draw)
@@ -1007,7 +1013,7 @@ class DrawnZone:
             self.rclass = draw.choice((IN, IN, IN, IN, CH, HS, 32))
             head.append(cased(draw, draw.choice(DRAWN_CLASSES[self.rclass])))
         draw.shuffle(head)
-        rtype, mnemonic, data, words = drawn_data(draw, self.rclass)
+        rtype, mnemonic, data, words = drawn_data(draw, self.rclass, self.origin)
         self.text += self.joined([owner or draw.choice(" \t"), *head, mnemonic, *words])
         self.answers.append(record(self.owner, ttl, rtype, data, self.rclass))
         self.end_line()

@@ -9,6 +9,7 @@ import sys
 
 sys.dont_write_bytecode = True
 import second
+import second_denial
 
 HERE = pathlib.Path(__file__).resolve().parent
 A, NS, CNAME, SOA, PTR, HINFO, MX, TXT, KEY, AAAA = 1, 2, 5, 6, 12, 13, 15, 16, 25, 28
@@ -304,6 +305,119 @@ TOLD = [
     ),
 ]
 
+
+
+def nsec(following, types):
+    """The data of an NSEC record: the next name, and types below 256 as a window of a bitmap (RFC 4034, 4.1)."""
+    bits = bytearray(max(types) // 8 + 1)
+    for it in types:
+        bits[it // 8] |= 128 >> it % 8
+    return name(following) + bytes([0, len(bits)]) + bytes(bits)
+
+
+# The zone of RFC 4035, appendix A, without RRSIG and DNSKEY records, whose types are in the bitmaps all the same.
+SIGNED_EXAMPLE = [
+    ("example.", NS, name("ns1.example.")),
+    ("example.", NS, name("ns2.example.")),
+    ("example.", MX, b"\0\1" + name("xx.example.")),
+    ("example.", NSEC, nsec("a.example.", [NS, SOA, MX, RRSIG, NSEC, 48])),
+    ("a.example.", NS, name("ns1.a.example.")),
+    ("a.example.", NS, name("ns2.a.example.")),
+    ("a.example.", DS, bytes.fromhex("e1ff0501b6dcd485719adca18e5f3d48a2331627fdd3636b")),
+    ("a.example.", NSEC, nsec("ai.example.", [NS, DS, RRSIG, NSEC])),
+    ("ns1.a.example.", A, address("192.0.2.5")),
+    ("ns2.a.example.", A, address("192.0.2.6")),
+    ("ai.example.", A, address("192.0.2.9")),
+    ("ai.example.", HINFO, text("KLH-10") + text("ITS")),
+    ("ai.example.", AAAA, bytes.fromhex("20010db800000000000000000f00baa9")),
+    ("ai.example.", NSEC, nsec("b.example.", [A, HINFO, AAAA, RRSIG, NSEC])),
+    ("b.example.", NS, name("ns1.b.example.")),
+    ("b.example.", NS, name("ns2.b.example.")),
+    ("b.example.", NSEC, nsec("ns1.example.", [NS, RRSIG, NSEC])),
+    ("ns1.b.example.", A, address("192.0.2.7")),
+    ("ns2.b.example.", A, address("192.0.2.8")),
+    ("ns1.example.", A, address("192.0.2.1")),
+    ("ns1.example.", NSEC, nsec("ns2.example.", [A, RRSIG, NSEC])),
+    ("ns2.example.", A, address("192.0.2.2")),
+    ("ns2.example.", NSEC, nsec("*.w.example.", [A, RRSIG, NSEC])),
+    ("*.w.example.", MX, b"\0\1" + name("ai.example.")),
+    ("*.w.example.", NSEC, nsec("x.w.example.", [MX, RRSIG, NSEC])),
+    ("x.w.example.", MX, b"\0\1" + name("xx.example.")),
+    ("x.w.example.", NSEC, nsec("x.y.w.example.", [MX, RRSIG, NSEC])),
+    ("x.y.w.example.", MX, b"\0\1" + name("xx.example.")),
+    ("x.y.w.example.", NSEC, nsec("xx.example.", [MX, RRSIG, NSEC])),
+    ("xx.example.", A, address("192.0.2.10")),
+    ("xx.example.", HINFO, text("KLH-10") + text("TOPS-20")),
+    ("xx.example.", AAAA, bytes.fromhex("20010db800000000000000000f00baaa")),
+    ("xx.example.", NSEC, nsec("example.", [A, HINFO, AAAA, RRSIG, NSEC])),
+]
+
+# The owners of NSEC RRsets, and of DS where a word says so, that questions get: which RFC says so, the apex, records
+# beside an SOA and a name server at it, the questions with these.
+DENIED = [
+    (
+        "RFC 4035, B.1 to B.8: its zone and its eight questions",
+        "example.",
+        SIGNED_EXAMPLE,
+        [
+            ("x.w.example.", MX, []),
+            ("ml.example.", A, ["b.example.", "example."]),
+            ("ns1.example.", MX, ["ns1.example."]),
+            ("mc.a.example.", MX, ["DS a.example."]),
+            ("mc.b.example.", MX, ["b.example."]),
+            ("a.z.w.example.", MX, ["x.y.w.example."]),
+            ("a.z.w.example.", AAAA, ["x.y.w.example.", "*.w.example."]),
+            ("example.", DS, ["example."]),
+        ],
+    ),
+    (
+        "RFC 4035, 3.1.3 and 3.1.4; RFC 4592, 2.2.2: empty non-terminals, one RRset for both names, names at cuts",
+        "example.",
+        SIGNED_EXAMPLE,
+        [
+            ("w.example.", A, ["ns2.example."]),
+            ("Y.w.example.", A, ["x.w.example."]),
+            ("aa.example.", A, ["a.example.", "example."]),
+            ("z.ns1.example.", A, ["ns1.example."]),
+            ("zz.example.", A, ["xx.example.", "example."]),
+            ("b.example.", DS, ["b.example."]),
+            ("a.example.", DS, []),
+            ("a.example.", NSEC, ["DS a.example."]),
+            ("example.", ANY, []),
+            ("example.", CNAME, ["example."]),
+            ("example.net.", A, []),
+        ],
+    ),
+    (
+        "RFC 6672, 2.2: what a DNAME redirects needs none",
+        "example.",
+        [
+            ("d.example.", DNAME, name("example.net.")),
+            ("d.example.", NSEC, nsec("example.", [DNAME, NSEC])),
+            ("example.", NSEC, nsec("d.example.", [NS, SOA, NSEC])),
+        ],
+        [("a.d.example.", A, []), ("d.example.", A, ["d.example."]), ("e.example.", A, ["d.example.", "example."])],
+    ),
+    (
+        "a zone without NSEC records, or with some: no others stand for those that aren't there",
+        "example.",
+        [
+            ("a.example.", A, address("192.0.2.1")),
+            ("cut.example.", NS, name("ns.cut.example.")),
+            ("ns.cut.example.", A, address("192.0.2.2")),
+            ("ns.cut.example.", NSEC, nsec("example.", [A, NSEC])),
+            ("example.", NSEC, nsec("example.", [NS, SOA, NSEC])),
+        ],
+        [
+            ("b.example.", A, ["example."]),
+            ("a.example.", MX, []),
+            ("d.example.", A, ["example."]),
+            ("ns.cut.example.", MX, []),
+            ("*.example.", A, ["example."]),
+        ],
+    ),
+]
+
 # What the drawn zones are made of.
 LABELS = ["a", "b", "c", "*", "A"]
 APEXES = [".", "z.", "Z.y."]
@@ -311,6 +425,7 @@ TYPES = [A] * 6 + [AAAA] * 3 + [TXT] * 4 + [NS] * 4 + [CNAME, DNAME, DNAME, DS, 
 FOREIGN = [0, OPT, NSEC3, 128, ANY, 65535]
 ASKED = [A, A, A, TXT, TXT, NS, CNAME, DNAME, DS, SOA, NSEC, ANY, 65535]
 ZONES, RECORDS, QUESTIONS, SEED = 2000, 7, 6, 4592
+SIGNED_ZONES, SIGNED_SEED = 600, 4035
 
 
 def drawn_name(draw, apex, known):
@@ -386,10 +501,26 @@ def spelled_alike(records):
         yield first.setdefault((owner.lower(), rtype, data), owner), rtype, ttl, data
 
 
-def line_of(apex, records, questions):
+def with_nsecs(draw, apex, records):
+    """The records, with an NSEC record at most of the names that should own one, and at some others."""
+    zone = second.Zone(apex)
+    for it in records:
+        zone.insert(*it)
+    names = [second.text_of([it.decode("latin-1") for it in reversed(it)]) for it, _ in second_denial.chain(zone)]
+    missing = draw.choice([0, 0, 0.2, 0.8])
+    made = [
+        (owner, NSEC, draw.choice([60, 3600]), nsec(following, [NSEC]))
+        for owner, following in zip(names, [*names[1:], apex])
+        if draw.random() >= missing
+    ]
+    others = [(owner, NSEC, 60, nsec(apex, [NSEC])) for owner, *_ in records if draw.random() < 0.05]
+    return records + made + others
+
+
+def line_of(apex, records, questions, word="zone"):
     shown = ";".join(f"{owner}/{rtype}/{ttl}/{data.hex() or '-'}" for owner, rtype, ttl, data in records)
     asked = ";".join(f"{it}/{rtype}" for it, rtype in questions)
-    return f"zone {apex} {shown or '-'} {asked or '-'}"
+    return f"{word} {apex} {shown or '-'} {asked or '-'}"
 
 
 def records_of(apex, rows):
@@ -404,6 +535,29 @@ def told_rows():
         yield heading, apex, rows, questions
     for owner, target, asked, answer in SUBSTITUTIONS:
         yield "RFC 6672, 2.2: the table of substitutions", ".", [(owner, DNAME, name(target))], [(asked, A, answer)]
+
+
+def denied_rows():
+    """The lines of what is denied, with their answers: the RFCs' first, which have to be as they say."""
+    for topic, apex, rows, questions in DENIED:
+        yield f"# {topic}", f"# {topic}"
+        records = records_of(apex, rows)
+        said = second_denial.answers(apex, records, [it[:2] for it in questions])
+        for shown, (asked, rtype, wanted) in zip(said.split("; ")[1:], questions):
+            sets = [it.split("/") for it in shown.split(",") if it != "-"]
+            if wanted != ["DS " * (rtype == str(DS)) + owner for owner, rtype, *_ in sets]:
+                sys.exit(f"{topic}: {asked} {rtype}: {shown}, not {wanted}")
+        yield line_of(apex, records, [it[:2] for it in questions], "denial"), said
+    draw = random.Random(SIGNED_SEED)
+    yield "# zones with NSEC records that are drawn", "# zones with NSEC records that are drawn"
+    zones = 0
+    while zones < SIGNED_ZONES:
+        apex, records, questions = drawn_zone(draw)
+        records = list(spelled_alike(with_nsecs(draw, apex, records)))
+        said = second_denial.answers(apex, records, questions)
+        if not said.endswith(" no zone"):
+            zones += 1
+            yield line_of(apex, records, questions, "denial"), said
 
 
 def main():
@@ -434,9 +588,15 @@ def main():
         answers.append(second.answers(apex, records, questions))
         is_zone = not answers[-1].endswith(" no zone")
         zones, asked = zones + is_zone, asked + is_zone * len(questions)
+    denied = list(denied_rows())
+    lines += [it for it, _ in denied]
+    answers += [it for _, it in denied]
     (HERE / "stdin").write_text("\n".join(lines) + "\n")
     (HERE / "stdout").write_text("\n".join(answers) + "\n")
-    print(f"{told} lines of the RFCs; {drawn} sets of records, of which {zones} are zones; {asked} questions to these")
+    print(
+        f"{told} lines of the RFCs; {drawn} sets of records, of which {zones} are zones; {asked} questions to these; "
+        f"{len(denied)} lines of what is denied"
+    )
 
 
 if __name__ == "__main__":

@@ -9,20 +9,13 @@ sys.path.insert(0, str(pathlib.Path(__file__).resolve().parents[1] / "conformanc
 import second as messages
 
 SERVICES = (64, 65)
-# These types have their fields in class IN alone (RFC 1035, 3.4; RFC 2163, 2230, 2782, 3596 and 9460).
-OF_INTERNET = (1, 26, 28, 33, 36, 64, 65)
-# These types are character strings as TXT is (RFC 4408, 3.1.1; AVC as IANA registered it), which the reader of messages
-# takes for octets.
-STRINGS = (99, 258)
 REMEMBERED, FARTHEST = 128, 0x3FFF
 
 # Why nothing is made of the lines of a message.
 SHORT = "an entry that is missing: message shows what is before it, and fails"
 UNREAD = "data that isn't of its type: make refuses it"
-CLASS = "data that has fields in class IN alone, in another class: make refuses it"
 PARAMETERS = "service parameters, whose text make doesn't read"
-NAME = "a name in data with an octet that has a meaning in a zone, and no backslash before it"
-EMPTY = "a digest or a key without octets, so without a word"
+POINTER = "a name that a pointer ends, in data that is shown as its octets"
 LONG = "a longer message than 65,535 octets, where the names in its data are whole"
 
 
@@ -53,25 +46,13 @@ class Writer:
             self.octets += number.to_bytes(size, "big")
 
 
-def has_zone_octet(labels):
-    return any(octet in b';"()' for label in labels for octet in label)
-
-
 def fields_of(rtype, data):
-    """The octets of data with no name compressed; or why its text isn't read."""
+    """The octets of data with no name compressed, and with the bitmaps of its types."""
     composed = b""
     for kind in messages.ALL[rtype]:
         begin = data.place
-        if kind in "nw":
-            labels = data.name()
-            if has_zone_octet(labels):
-                raise Refused(NAME)
-            composed += messages.name_octets(labels)
-            continue
         octets = messages.field(data, kind, False)[0]
-        if kind in "xb" and not octets:
-            raise Refused(EMPTY)
-        composed += octets if kind != "m" else bitmaps_of(messages.Reader(data.octets, begin, data.place))
+        composed += bitmaps_of(messages.Reader(data.octets, begin, data.place)) if kind in "mM" and octets else octets
     return composed
 
 
@@ -82,42 +63,25 @@ def bitmaps_of(data):
     for number in messages.bitmaps(data):
         bits = windows.setdefault(number >> 8, bytearray(32))
         bits[number % 256 // 8] |= 0x80 >> number % 8
-    if not windows:
-        raise Refused(EMPTY)
     return b"".join(bytes([it, len(bits.rstrip(b"\0"))]) + bits.rstrip(b"\0") for it, bits in sorted(windows.items()))
-
-
-def are_strings(octets):
-    """Whether octets are character strings, one or more (RFC 1035, 3.3)."""
-    at = 0
-    while at < len(octets):
-        at += 1 + octets[at]
-    return 0 < at == len(octets)
 
 
 def data_of(rtype, rclass, data):
     """The octets of a record's data, or why they aren't made of its text."""
-    whole = messages.Reader(data.octets, data.place, data.end)
-    octets = bytes(data.octets[data.place : data.end])
-    if not octets and rclass in (254, 255):
-        return b""
-    has_other_class = rtype in OF_INTERNET and rclass != 1
+    whole, again = data.octets[data.place:data.end], messages.Reader(data.octets, data.place, data.end)
+    if rtype not in messages.ALL or rclass != 1 and rtype in messages.OF_IN or not whole and rclass in (254, 255):
+        return whole
     try:
-        plain = messages.of_any(rtype, data, messages.ALL)[0]
+        plain, _canonical, _length, text = messages.of_any(rtype, data, messages.ALL)
     except messages.Refused:
-        # They are shown after the mark of RFC 3597, 5, and in that class they are data of no known fields.
-        if has_other_class:
-            return octets
         raise Refused(UNREAD) from None
-    if rtype in STRINGS and not are_strings(octets):
-        raise Refused(UNREAD)
-    if rtype not in messages.ALL:
-        return plain
-    if has_other_class:
-        raise Refused(CLASS)
+    if text.startswith("\\# "):
+        if plain != whole:
+            raise Refused(POINTER)
+        return whole
     if rtype in SERVICES:
         raise Refused(PARAMETERS)
-    return fields_of(rtype, whole)
+    return fields_of(rtype, again)
 
 
 def names_of(octets):

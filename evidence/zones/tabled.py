@@ -51,7 +51,8 @@ class Case:
 def cases(most):
     """The zones that a server can load, the first `most` of the table, and how many are left out."""
     lines, answers = ((TABLE / it).read_text().splitlines() for it in ("stdin", "stdout"))
-    both = [it for it in zip(lines, answers, strict=True) if it[0][0] != "#" and not it[1].endswith(" no zone")]
+    both = zip(lines, answers, strict=True)
+    both = [it for it in both if it[0].startswith("zone ") and not it[1].endswith(" no zone")]
     read = [Case(*it) for it in both[:most]]
     kept = [it for it in read if it.has_valid_servers()]
     return kept, len(read) - len(kept)

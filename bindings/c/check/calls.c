@@ -576,7 +576,7 @@ static void names_in_data(void)
     /* com at 0, two octets, a.com and b.com at 7, and 20 octets. */
     static const uint8_t octets[] = "\3com\0\0\12\1a\300\0\1b\300\0" "12345678901234567890";
     static const uint16_t alone[] = {2, 3, 4, 5, 7, 8, 9, 12, 39}, after_two[] = {15, 18, 21, 36};
-    static const uint16_t none[] = {0, 1, 10, 11, 13, 16, 28, 41, 46, 257, 65535};
+    static const uint16_t none[] = {0, 1, 10, 11, 13, 16, 28, 41, 43, 257, 65535};
     size_t i, all = sizeof octets - 1;
 
     for (i = 0; i < sizeof alone / sizeof *alone; i++) {
@@ -587,6 +587,8 @@ static void names_in_data(void)
     for (i = 0; i < sizeof after_two / sizeof *after_two; i++)
         has_name(octets, all, 5, 6, after_two[i], 0, NAME("\1a\3com"));
     has_name(octets, all, 1, 10, 33, 0, NAME("\1a\3com"));
+    has_name(octets, all, 5, 6, 107, 0, NAME("\1a\3com"));
+    has_name(octets, all, 7, 8, 58, 1, NAME("\1b\3com"));
     has_name(octets, all, 7, 8, 14, 0, NAME("\1a\3com"));
     has_name(octets, all, 7, 8, 17, 1, NAME("\1b\3com"));
     has_name(octets, all, 5, 10, 26, 1, NAME("\1b\3com"));
@@ -615,6 +617,8 @@ static void names_in_data(void)
     REFUSES(DNSNAMES_TOO_MANY_POINTERS, name_in(HOSTILE, HOSTILE_LEN, 0, 2, 5, 0, 255));
     REFUSES(DNSNAMES_LONG_NAME, name_in(HOSTILE, HOSTILE_LEN, 6, 4, 5, 0, 255));
     REFUSES(DNSNAMES_LABEL_TYPE, name_in(HOSTILE, HOSTILE_LEN, 10, 2, 5, 0, 255));
+    /* The second name is read, too, where the first is asked for. */
+    REFUSES(DNSNAMES_TOO_MANY_POINTERS, name_in(OCTETS("\1a\0\300\3"), 5, 0, 5, 14, 0, 255));
 }
 
 /* The number in data from an offset on, so many octets, of this type. */
@@ -639,7 +643,7 @@ static void numbers_in_data(void)
     /* com at 0, five numbers at 5, a.com and b.com at 13, and the numbers of the SOA record of RFC 1035, 5.3. */
     static const uint8_t octets[] = "\3com\0" "\0\1\377\376\0\65\0\12" "\1a\300\0" "\1b\300\0"
                                     "\0\0\0\24" "\0\0\34\40" "\0\0\2\130" "\0\66\356\200" "\0\0\0\74" "\0";
-    static const uint16_t preferred[] = {15, 18, 21, 36}, none[] = {0, 1, 2, 5, 12, 13, 14, 16, 17, 28, 39, 41, 65535};
+    static const uint16_t preferred[] = {15, 18, 21, 36}, none[] = {0, 1, 2, 5, 12, 13, 14, 16, 17, 28, 39, 41, 108, 109, 65535};
     static const uint32_t times[] = {20, 7200, 600, 3600000, 60};
     size_t i, all = sizeof octets - 1;
 
@@ -658,6 +662,9 @@ static void numbers_in_data(void)
     REFUSES(DNSNAMES_NO_FIELD, number_in(octets, all, 13, 28, 6, 5));
     for (i = 0; i < sizeof none / sizeof *none; i++)
         REFUSES(DNSNAMES_NO_FIELD, number_in(octets, all, 13, 4, none[i], 0));
+    /* L64 has a number of 16 bits, and one of 64, which isn't given. */
+    has_number(octets, all, 5, 10, 106, 0, 1);
+    REFUSES(DNSNAMES_NO_FIELD, number_in(octets, all, 5, 10, 106, 1));
     REFUSES(DNSNAMES_TRAILING_DATA, number_in(octets, all, 13, 29, 6, 0));
     REFUSES(DNSNAMES_TRAILING_DATA, number_in(octets, all, 11, 7, 15, 0));
     REFUSES(DNSNAMES_SHORT_INPUT, number_in(octets, 16, 11, 6, 15, 0));
@@ -693,6 +700,130 @@ static void addresses_in_data(void)
     REFUSES(DNSNAMES_SHORT_INPUT, address_in(octets, 19, 4, 16, DNSNAMES_TYPE_AAAA, 16));
     REFUSES(DNSNAMES_SHORT_INPUT, address_in(octets, 20, SIZE_MAX, 4, DNSNAMES_TYPE_A, 16));
     REFUSES(DNSNAMES_NO_FIELD, address_in(octets, 20, 0, 4, DNSNAMES_TYPE_NS, 16));
+    /* L32 has a number before its address. */
+    mark();
+    CHECK(address_in(octets, 20, 0, 6, 105, 16) == DNSNAMES_OK && length == 4 && holds(octets + 2, 4));
+}
+
+/* Data behind the name a.b., at 5: to these and to its root lead pointers to 0 and 4. */
+#define DATA(text) OCTETS("\1a\1b\0" text), sizeof("\1a\1b\0" text) - 1
+
+static dnsnames_field field;
+
+/* The field with `index` fields before it in all octets from 5 on. */
+static uint32_t field_in(const uint8_t *message, size_t len, uint16_t type, uint16_t class_, size_t index)
+{
+    return dnsnames_data_field(message, len, 5, len - 5, type, class_, index, &field);
+}
+
+/* The fields of such data: for each its kind, its end and its number. */
+struct told {
+    uint32_t kind;
+    size_t end;
+    uint64_t number;
+};
+
+static void has_fields(const uint8_t *message, size_t len, uint16_t type, uint16_t class_, const struct told *fields,
+                       size_t count)
+{
+    size_t i, begin = 5;
+
+    for (i = 0; i < count; i++) {
+        memset(&field, 0x5a, sizeof field);
+        CHECK(field_in(message, len, type, class_, i) == DNSNAMES_OK);
+        CHECK(field.kind == fields[i].kind && field.begin == begin && field.end == fields[i].end);
+        CHECK(field.number == fields[i].number);
+        begin = fields[i].end;
+    }
+    CHECK(begin == len);
+    for (i = count; i < count + 2; i++)
+        CHECK(field_in(message, len, type, class_, i) == DNSNAMES_NO_MORE && field.end == len);
+    CHECK(field_in(message, len, type, class_, SIZE_MAX) == DNSNAMES_NO_MORE && field.end == len);
+}
+
+/* Such data are refused, whichever field is asked for, and nothing is changed. */
+static void has_fault(uint32_t status, const uint8_t *message, size_t len, uint16_t type)
+{
+    size_t i;
+
+    for (i = 0; i < 12; i++) {
+        field.kind = 77;
+        field.number = field.begin = field.end = 77;
+        CHECK(field_in(message, len, type, DNSNAMES_CLASS_IN, i) == status);
+        CHECK(field.kind == 77 && field.begin == 77 && field.end == 77 && field.number == 77);
+    }
+}
+
+#define HAS_FIELDS(data, type, class_, ...)                                             \
+    do {                                                                                \
+        static const struct told fields[] = {__VA_ARGS__};                              \
+        has_fields(data, type, class_, fields, sizeof fields / sizeof *fields);         \
+    } while (0)
+
+static void fields_in_data(void)
+{
+    size_t i;
+
+    HAS_FIELDS(DATA("\300\0\2\1"), DNSNAMES_TYPE_A, 1, {DNSNAMES_FIELD_IPV4, 9, 0});
+    HAS_FIELDS(DATA("\0\12\1m\300\0"), DNSNAMES_TYPE_MX, 1, {DNSNAMES_FIELD_NUMBER16, 7, 10}, {DNSNAMES_FIELD_NAME, 11, 0});
+    /* MX is of every class (RFC 1035, 3.3), SRV of class IN alone (RFC 2782). */
+    HAS_FIELDS(DATA("\0\12\1m\300\0"), DNSNAMES_TYPE_MX, 3, {DNSNAMES_FIELD_NUMBER16, 7, 10}, {DNSNAMES_FIELD_NAME, 11, 0});
+    HAS_FIELDS(DATA("\0\1\0\2\377\376\300\2"), DNSNAMES_TYPE_SRV, 1, {DNSNAMES_FIELD_NUMBER16, 7, 1},
+               {DNSNAMES_FIELD_NUMBER16, 9, 2}, {DNSNAMES_FIELD_NUMBER16, 11, 65534}, {DNSNAMES_FIELD_NAME, 13, 0});
+    HAS_FIELDS(DATA("\0\1\0\2\377\376\300\2"), DNSNAMES_TYPE_SRV, 3, {DNSNAMES_FIELD_OCTETS, 13, 0});
+    HAS_FIELDS(DATA("\300\0\300\2\0\0\0\24\0\0\34\40\0\0\2\130\0\66\356\200\0\0\0\74"), DNSNAMES_TYPE_SOA, 1,
+               {DNSNAMES_FIELD_NAME, 7, 0}, {DNSNAMES_FIELD_NAME, 9, 0}, {DNSNAMES_FIELD_SERIAL, 13, 20},
+               {DNSNAMES_FIELD_TTL, 17, 7200}, {DNSNAMES_FIELD_TTL, 21, 600}, {DNSNAMES_FIELD_TTL, 25, 3600000},
+               {DNSNAMES_FIELD_TTL, 29, 60});
+    /* Salt aabb, a hash of two octets, and the types A and MX. */
+    HAS_FIELDS(DATA("\1\0\0\14\2\252\273\2xy\0\2\100\1"), DNSNAMES_TYPE_NSEC3, 1, {DNSNAMES_FIELD_NUMBER8, 6, 1},
+               {DNSNAMES_FIELD_NUMBER8, 7, 0}, {DNSNAMES_FIELD_NUMBER16, 9, 12}, {DNSNAMES_FIELD_COUNTED_BASE16, 12, 0},
+               {DNSNAMES_FIELD_COUNTED_BASE32, 15, 0}, {DNSNAMES_FIELD_OPTIONAL_TYPE_BITMAPS, 19, 0});
+    HAS_FIELDS(DATA("\0\61\10\2\0\1\121\200\177\377\377\377\200\0\0\0\60\71\300\0sig"), DNSNAMES_TYPE_RRSIG, 1,
+               {DNSNAMES_FIELD_TYPE, 7, 49}, {DNSNAMES_FIELD_NUMBER8, 8, 8}, {DNSNAMES_FIELD_NUMBER8, 9, 2},
+               {DNSNAMES_FIELD_TTL, 13, 86400}, {DNSNAMES_FIELD_TIME, 17, 2147483647}, {DNSNAMES_FIELD_TIME, 21, 2147483648},
+               {DNSNAMES_FIELD_NUMBER16, 23, 12345}, {DNSNAMES_FIELD_NAME, 25, 0}, {DNSNAMES_FIELD_BASE64, 28, 0});
+    HAS_FIELDS(DATA("\200\5issueca.b"), DNSNAMES_TYPE_CAA, 1, {DNSNAMES_FIELD_NUMBER8, 6, 128}, {DNSNAMES_FIELD_TAG, 12, 0},
+               {DNSNAMES_FIELD_QUOTED_TEXT, 16, 0});
+    HAS_FIELDS(DATA("\0\1\0\2\1S\0\2!!\0"), DNSNAMES_TYPE_NAPTR, 1, {DNSNAMES_FIELD_NUMBER16, 7, 1},
+               {DNSNAMES_FIELD_NUMBER16, 9, 2}, {DNSNAMES_FIELD_CHAR_STRING, 11, 0}, {DNSNAMES_FIELD_CHAR_STRING, 12, 0},
+               {DNSNAMES_FIELD_CHAR_STRING, 15, 0}, {DNSNAMES_FIELD_NAME, 16, 0});
+    HAS_FIELDS(DATA("\0\1\0\0\1\0\3\2h2\0\3\0\2\1\273"), DNSNAMES_TYPE_SVCB, 1, {DNSNAMES_FIELD_NUMBER16, 7, 1},
+               {DNSNAMES_FIELD_NAME, 8, 0}, {DNSNAMES_FIELD_SVC_PARAMS, 21, 0});
+    HAS_FIELDS(DATA("\3abc\0"), DNSNAMES_TYPE_TXT, 1, {DNSNAMES_FIELD_CHAR_STRINGS, 10, 0});
+    HAS_FIELDS(DATA("\1a"), 20, 1, {DNSNAMES_FIELD_CHAR_STRING, 7, 0}, {DNSNAMES_FIELD_OPTIONAL_STRING, 7, 0});
+    HAS_FIELDS(DATA("\0\1\0\1\2\3\4\5\6\7"), 106, 1, {DNSNAMES_FIELD_NUMBER16, 7, 1},
+               {DNSNAMES_FIELD_NUMBER64, 15, 0x0001020304050607});
+    HAS_FIELDS(DATA("\377\1\2\3\4\5"), 108, 1, {DNSNAMES_FIELD_NUMBER48, 11, 0xff0102030405});
+    /* Types of which nothing is known, and no octet at all. */
+    HAS_FIELDS(DATA("abc"), 65535, 1, {DNSNAMES_FIELD_OCTETS, 8, 0});
+    HAS_FIELDS(DATA(""), 10, 1, {DNSNAMES_FIELD_OCTETS, 5, 0});
+
+    has_fault(DNSNAMES_SHORT_INPUT, DATA("\0"), DNSNAMES_TYPE_MX);
+    has_fault(DNSNAMES_SHORT_INPUT, DATA("\0\1"), DNSNAMES_TYPE_MX);
+    has_fault(DNSNAMES_TRAILING_DATA, DATA("\0\1\0\0"), DNSNAMES_TYPE_MX);
+    has_fault(DNSNAMES_LABEL_TYPE, DATA("\0\1\100"), DNSNAMES_TYPE_MX);
+    has_fault(DNSNAMES_TOO_MANY_POINTERS, DATA("\0\1\300\7"), DNSNAMES_TYPE_MX);
+    has_fault(DNSNAMES_LONG_NAME, DATA("\0\1\1a\300\7"), DNSNAMES_TYPE_MX);
+    has_fault(DNSNAMES_BAD_TAG, DATA("\0\0value"), DNSNAMES_TYPE_CAA);
+    has_fault(DNSNAMES_BAD_TAG, DATA("\0\1-value"), DNSNAMES_TYPE_CAA);
+    has_fault(DNSNAMES_SHORT_INPUT, DATA("\0\7issue"), DNSNAMES_TYPE_CAA);
+    has_fault(DNSNAMES_EMPTY_HASH, DATA("\1\0\0\14\0\0\0\1\100"), DNSNAMES_TYPE_NSEC3);
+    has_fault(DNSNAMES_WINDOW_ORDER, DATA("\0\1\1\100\1\1\100"), DNSNAMES_TYPE_NSEC);
+    has_fault(DNSNAMES_WINDOW_ORDER, DATA("\0\1\1\100\0\0"), DNSNAMES_TYPE_NSEC);
+    has_fault(DNSNAMES_BITMAP_LENGTH, DATA("\0\0\0"), DNSNAMES_TYPE_NSEC);
+    has_fault(DNSNAMES_BITMAP_LENGTH, DATA("\0\0\41"), DNSNAMES_TYPE_NSEC);
+    has_fault(DNSNAMES_SHORT_INPUT, DATA("\0"), DNSNAMES_TYPE_NSEC);
+    has_fault(DNSNAMES_KEY_ORDER, DATA("\0\1\0\0\3\0\2\1\273\0\1\0\3\2h2"), DNSNAMES_TYPE_HTTPS);
+    has_fault(DNSNAMES_SHORT_INPUT, DATA("\0\1\0\0\3\0\3\1\273"), DNSNAMES_TYPE_HTTPS);
+    has_fault(DNSNAMES_SHORT_INPUT, DATA(""), DNSNAMES_TYPE_TXT);
+    /* The data end past the message. */
+    for (i = 0; i < 3; i++) {
+        static const size_t at[] = {6, 5, SIZE_MAX}, len[] = {4, SIZE_MAX, SIZE_MAX};
+        CHECK(dnsnames_data_field(DATA("abcd"), at[i], len[i], 65535, 1, 0, &field) == DNSNAMES_SHORT_INPUT);
+    }
+    /* What follows the data isn't read. */
+    CHECK(dnsnames_data_field(DATA("\0\1\1a\0"), 5, 4, 15, 1, 0, &field) == DNSNAMES_SHORT_INPUT);
 }
 
 static uint32_t string_in(const uint8_t *message, size_t len, size_t data, size_t data_len, uint16_t type)
@@ -713,6 +844,8 @@ static void strings_in_data(void)
     CHECK(string_in(octets, all, 1, 7, DNSNAMES_TYPE_TXT) == DNSNAMES_NO_MORE && offset == 7 && length == 1);
     REFUSES(DNSNAMES_NO_MORE, string_in(octets, all, 1, 7, DNSNAMES_TYPE_TXT)); /* as many as 77 were passed */
     REFUSES(DNSNAMES_NO_FIELD, string_in(octets, all, 1, 7, DNSNAMES_TYPE_HINFO));
+    offset = 0;
+    CHECK(string_in(octets, all, 1, 7, 258) == DNSNAMES_OK && offset == 4);
     REFUSES(DNSNAMES_SHORT_INPUT, string_in(octets, all, 2, 7, DNSNAMES_TYPE_TXT));
     REFUSES(DNSNAMES_SHORT_INPUT, string_in(octets, all, SIZE_MAX, SIZE_MAX, DNSNAMES_TYPE_TXT));
     for (i = 0; i < 4; i++) {
@@ -1395,7 +1528,7 @@ static void statuses(void)
 {
     uint32_t i, k;
 
-    for (i = 0; i <= DNSNAMES_NO_MARK; i++) {
+    for (i = 0; i <= DNSNAMES_KEY_ORDER; i++) {
         CHECK(dnsnames_strerror(i) != NULL && dnsnames_strerror(i)[0] != 0);
         for (k = 0; k < i; k++)
             CHECK(strcmp(dnsnames_strerror(i), dnsnames_strerror(k)) != 0);
@@ -1415,6 +1548,7 @@ int main(void)
     labels();
     messages();
     tables();
+    fields_in_data();
     names_in_data();
     numbers_in_data();
     addresses_in_data();

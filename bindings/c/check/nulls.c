@@ -17,6 +17,7 @@ static dnsnames_record_fields record;
 static int32_t order;
 static uint64_t hash;
 static dnsnames_opt_fields opt;
+static dnsnames_field field;
 static dnsnames_builder builder;
 static const dnsnames_builder_state place;
 
@@ -32,6 +33,7 @@ static void mark(void)
     memset(&question, 0x5a, sizeof question);
     memset(&record, 0x5a, sizeof record);
     memset(&opt, 0x5a, sizeof opt);
+    memset(&field, 0x5a, sizeof field);
     memset(&builder.state, 0x5a, sizeof builder.state);
     flag = 77;
     order = 77;
@@ -61,7 +63,8 @@ static int is_marked(void)
             return 0;
     return length == 77 && end == 77 && table[0] == 0x5a5a && flag == 77 && order == 77 && hash == 77 &&
            is_5a(&header, sizeof header) && is_5a(&question, sizeof question) && is_5a(&record, sizeof record) &&
-           is_5a(rows, sizeof rows) && is_5a(&opt, sizeof opt) && is_5a(&builder.state, sizeof builder.state);
+           is_5a(rows, sizeof rows) && is_5a(&opt, sizeof opt) && is_5a(&field, sizeof field) &&
+           is_5a(&builder.state, sizeof builder.state);
 }
 
 #define REFUSES(status, call)      \
@@ -102,6 +105,7 @@ static void empty(void)
     mark();
     CHECK(dnsnames_table(NONE, 0, 255, NULL, 0, NULL, 0, &length, &end) == DNSNAMES_SHORT_INPUT);
     CHECK(length == 0 && end == 0);
+    REFUSES(DNSNAMES_SHORT_INPUT, dnsnames_data_field(NONE, 0, 0, 0, 5, 1, 0, &field));
     REFUSES(DNSNAMES_SHORT_INPUT, dnsnames_data_name(NONE, 0, 0, 0, 5, 0, buffer, sizeof buffer, &length));
     REFUSES(DNSNAMES_SHORT_INPUT, dnsnames_data_number(NONE, 0, 0, 0, 15, 0, &flag));
     REFUSES(DNSNAMES_SHORT_INPUT, dnsnames_data_address(NONE, 0, 0, 0, 1, buffer, sizeof buffer, &length));
@@ -177,6 +181,7 @@ static void slices(void)
     NULLED(dnsnames_table(NONE, 1, 255, rows, 8, buffer, sizeof buffer, &length, &end));
     NULLED(dnsnames_table(NAME, sizeof NAME, 255, NULL, 1, buffer, sizeof buffer, &length, &end));
     NULLED(dnsnames_table(NAME, sizeof NAME, 255, rows, 8, NULL, 1, &length, &end));
+    NULLED(dnsnames_data_field(NONE, 1, 0, 0, 5, 1, 0, &field));
     NULLED(dnsnames_data_name(NONE, 1, 0, 0, 5, 0, buffer, sizeof buffer, &length));
     NULLED(dnsnames_data_number(NONE, 1, 0, 0, 15, 0, &flag));
     NULLED(dnsnames_data_address(NONE, 1, 0, 0, 1, buffer, sizeof buffer, &length));
@@ -286,6 +291,7 @@ static void results(void)
     NULLED(dnsnames_ends_with(NAME, sizeof NAME, NAME, sizeof NAME, NULL));
     NULLED(dnsnames_hash(KEY, NAME, sizeof NAME, NULL));
     NULLED(dnsnames_hash(NULL, NAME, sizeof NAME, &hash));
+    NULLED(dnsnames_data_field(NAME, sizeof NAME, 0, 5, 5, 1, 0, NULL));
     NULLED(dnsnames_data_name(NAME, sizeof NAME, 0, 5, 5, 0, buffer, sizeof buffer, NULL));
     NULLED(dnsnames_data_number(NAME, sizeof NAME, 0, 5, 15, 0, NULL));
     NULLED(dnsnames_data_address(NAME, sizeof NAME, 0, 4, 1, buffer, sizeof buffer, NULL));

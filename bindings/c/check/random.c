@@ -25,6 +25,7 @@ struct answer {
     dnsnames_question_fields question;
     dnsnames_record_fields record;
     dnsnames_opt_fields opt;
+    dnsnames_field field;
     uint8_t buffer[1100];
     uint32_t rows[12 * DNSNAMES_ROW_LEN];
 };
@@ -383,6 +384,7 @@ static void ask_of_data(const uint8_t *message, size_t len, size_t offset)
     size_t index = random_below(6) == 0 ? random_below(3) : random_below(2), capacity = random_below(20), end = offset;
     size_t data_len = random_below(100), begin = offset, number = random_below(6), address_len = random_below(20);
     uint16_t address_type = random_below(2) == 0 ? 1 : (uint16_t)(27 + random_below(2));
+    uint16_t class_ = (uint16_t)(1 + random_below(2));
 
     if (random_below(3) != 0)
         address_len = address_type == 1 ? 4 : 16;
@@ -397,6 +399,100 @@ static void ask_of_data(const uint8_t *message, size_t len, size_t offset)
     BOTH(data_name, message, len, begin, data_len, type, index, x->buffer, sizeof x->buffer, &x->size[0]);
     BOTH(data_name, message, len, begin, data_len, type, index, x->buffer, capacity, &x->size[0]);
     BOTH(data_number, message, len, begin, data_len, type, number, &x->flag);
+    BOTH(data_field, message, len, begin, data_len, type, class_, index, &x->field);
+}
+
+/* So many random octets. */
+static size_t put_random(uint8_t *octets, size_t at, size_t count)
+{
+    while (count-- > 0)
+        octets[at++] = (uint8_t)random_below(256);
+    return at;
+}
+
+/* Octets of a field of this letter, most of which are right. */
+static size_t put_field(uint8_t *octets, size_t at, char letter)
+{
+    unsigned named = 0, i;
+
+    switch (letter) {
+    case '1': return put_random(octets, at, 1);
+    case '2': case 'y': return put_random(octets, at, 2);
+    case '6': return put_random(octets, at, 6);
+    case '8': return put_random(octets, at, 8);
+    case 'A': return put_random(octets, at, 16);
+    case 'n':
+        if (random_below(2) == 0) {
+            octets[at++] = 1;
+            octets[at++] = 'x';
+        }
+        octets[at++] = random_below(3) == 0 ? 0 : 0xc0;
+        if (octets[at - 1] != 0)
+            octets[at++] = (uint8_t)(random_below(8) == 0 ? random_below(64) : 0);
+        return at;
+    case 'o': case 'c': case 'h': case 'H':
+        octets[at] = (uint8_t)random_below(4);
+        return put_random(octets, at + 1, octets[at]);
+    case 'g':
+        octets[at] = (uint8_t)random_below(6);
+        memcpy(octets + at + 1, "issue", 5);
+        return at + 1 + octets[at];
+    case 'b':
+        octets[at] = 0;
+        octets[at + 1] = (uint8_t)random_below(4);
+        return put_random(octets, at + 2, octets[at + 1]);
+    case 'C':
+        do {
+            octets[at] = (uint8_t)random_below(3);
+            at = put_random(octets, at + 1, octets[at]);
+        } while (random_below(3) != 0 && at < 200);
+        return at;
+    case 'w': case 'W':
+        for (i = random_below(3); i > 0; i--) {
+            octets[at] = (uint8_t)(named += random_below(5));
+            octets[at + 1] = (uint8_t)(random_below(8) == 0 ? random_below(40) : 1 + random_below(3));
+            at = put_random(octets, at + 2, octets[at + 1]);
+        }
+        return at;
+    case 'p':
+        for (i = random_below(3); i > 0; i--) {
+            octets[at] = 0;
+            octets[at + 1] = (uint8_t)(named += random_below(4));
+            octets[at + 2] = 0;
+            octets[at + 3] = (uint8_t)random_below(4);
+            at = put_random(octets, at + 4, octets[at + 3]);
+        }
+        return at;
+    case 'q': case 'x': case 'X': case '*': return put_random(octets, at, random_below(6));
+    default: return put_random(octets, at, 4);
+    }
+}
+
+/* Data of any type and class, most of which are right, behind a name: each of their fields, and one more. */
+static void ask_of_fields(void)
+{
+    static const uint16_t some[] = {35, 46, 47, 50, 64, 65, 99, 104, 105, 106, 107, 108, 109, 249, 250, 256, 257, 258, 32769};
+    uint8_t octets[600] = "\1b\1a";
+    uint16_t type = random_below(2) == 0 ? some[random_below(19)] : (uint16_t)random_below(66);
+    uint16_t class_ = random_below(4) == 0 ? (uint16_t)(1 + random_below(4)) : 1;
+    size_t data = 5, end = data, len, data_len, index;
+    const char *letter;
+    uint8_t *message;
+
+    for (letter = field_letters(type, class_); *letter != 0; letter++)
+        end = put_field(octets, end, *letter);
+    if (random_below(4) == 0)
+        octets[data + random_below((uint32_t)(end - data) + 1)] = (uint8_t)random_below(256);
+    len = end + random_below(3);
+    data_len = random_below(3) == 0 ? random_below((uint32_t)(end - data) + 3) : end - data;
+    message = fence - len;
+    memcpy(message, octets, len);
+    for (index = 0; index < 11; index++) {
+        BOTH(data_field, message, len, data, data_len, type, class_, index, &x->field);
+        BOTH(data_name, message, len, data, data_len, type, index, x->buffer, sizeof x->buffer, &x->size[0]);
+        BOTH(data_number, message, len, data, data_len, type, index, &x->flag);
+    }
+    BOTH(data_address, message, len, data, data_len, type, x->buffer, sizeof x->buffer, &x->size[0]);
 }
 
 /* A message of a few questions and records, most of whose names are read; in some an octet is another, or the last are
@@ -550,6 +646,7 @@ int main(int argc, char **argv)
         uint8_t *message = fence - len;
         memcpy(message, octets, len);
         ask_of_message(message, len);
+        ask_of_fields();
         ask_of_text();
         len = make_entries(octets);
         message = fence - len;

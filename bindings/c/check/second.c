@@ -824,92 +824,268 @@ uint32_t SECOND(canonical_name)(const uint8_t *message, size_t message_len, uint
     return give(name.name, name.len, buffer, capacity, length);
 }
 
-/* What is before the names in data of a type, how many names there are, and what is after them. */
+/* What a field is, by a letter: 1 2 4 6 8 numbers of so many octets; t TTL, s serial, T time, y type; a and A addresses;
+ * n name; c string, o string or nothing, C strings, g tag, q text; h and H octets counted by one octet, b by two; w and
+ * W type bitmaps; p service parameters; x X * the rest. The number of a kind is the place of its letter. */
+static const char KINDS[] = "12468tsTyaAncoCgqhHbwWpxX*";
+
+/* The fields of data of a type. Those with a minus before them are of class IN alone. */
 static const struct {
     unsigned type;
-    size_t before, names, after;
+    const char *fields;
 } DATA[] = {
-    {2, 0, 1, 0},  {3, 0, 1, 0},  {4, 0, 1, 0},  {5, 0, 1, 0},  {6, 0, 2, 20}, {7, 0, 1, 0},  {8, 0, 1, 0},
-    {9, 0, 1, 0},  {12, 0, 1, 0}, {14, 0, 2, 0}, {15, 2, 1, 0}, {17, 0, 2, 0}, {18, 2, 1, 0}, {21, 2, 1, 0},
-    {26, 2, 2, 0}, {33, 6, 1, 0}, {36, 2, 1, 0}, {39, 0, 1, 0},
+    {1, "-a"},          /* A: RFC 1035, 3.4.1 */
+    {2, "n"},           /* NS: 3.3.11 */
+    {3, "n"},           /* MD: 3.3.4 */
+    {4, "n"},           /* MF: 3.3.5 */
+    {5, "n"},           /* CNAME: 3.3.1 */
+    {6, "nnstttt"},     /* SOA: 3.3.13 */
+    {7, "n"},           /* MB: 3.3.3 */
+    {8, "n"},           /* MG: 3.3.6 */
+    {9, "n"},           /* MR: 3.3.8 */
+    {12, "n"},          /* PTR: 3.3.12 */
+    {13, "cc"},         /* HINFO: 3.3.2 */
+    {14, "nn"},         /* MINFO: 3.3.7 */
+    {15, "2n"},         /* MX: 3.3.9 */
+    {16, "C"},          /* TXT: 3.3.14 */
+    {17, "nn"},         /* RP: RFC 1183, 2.2 */
+    {18, "2n"},         /* AFSDB: RFC 1183, 1 */
+    {19, "c"},          /* X25: RFC 1183, 3.1 */
+    {20, "co"},         /* ISDN: RFC 1183, 3.2 */
+    {21, "2n"},         /* RT: RFC 1183, 3.3 */
+    {24, "y11tTT2nX"},  /* SIG: RFC 2535, 4.1 */
+    {25, "211X"},       /* KEY: RFC 2535, 3.1 */
+    {26, "-2nn"},       /* PX: RFC 2163, 4 */
+    {27, "ccc"},        /* GPOS: RFC 1712, 3 */
+    {28, "-A"},         /* AAAA: RFC 3596, 2.2 */
+    {30, "n*"},         /* NXT: RFC 2535, 5.2 */
+    {33, "-222n"},      /* SRV: RFC 2782 */
+    {35, "22cccn"},     /* NAPTR: RFC 3403, 4.1 */
+    {36, "-2n"},        /* KX: RFC 2230, 3.1 */
+    {37, "221X"},       /* CERT: RFC 4398, 2 */
+    {39, "n"},          /* DNAME: RFC 6672, 2.1 */
+    {43, "211x"},       /* DS: RFC 4034, 5.1 */
+    {44, "11x"},        /* SSHFP: RFC 4255, 3.1 */
+    {46, "y11tTT2nX"},  /* RRSIG: RFC 4034, 3.1 */
+    {47, "nw"},         /* NSEC: RFC 4034, 4.1 */
+    {48, "211X"},       /* DNSKEY: RFC 4034, 2.1 */
+    {49, "-X"},         /* DHCID: RFC 4701, 3.1 */
+    {50, "112hHW"},     /* NSEC3: RFC 5155, 3.2 */
+    {51, "112h"},       /* NSEC3PARAM: RFC 5155, 4.2 */
+    {52, "111x"},       /* TLSA: RFC 6698, 2.1 */
+    {53, "111x"},       /* SMIMEA: RFC 8162, 2 */
+    {58, "nn"},         /* TALINK */
+    {59, "211x"},       /* CDS: RFC 7344, 3.1 */
+    {60, "211X"},       /* CDNSKEY: RFC 7344, 3.2 */
+    {61, "X"},          /* OPENPGPKEY: RFC 7929, 2.1 */
+    {62, "s2W"},        /* CSYNC: RFC 7477, 2.1 */
+    {63, "s11x"},       /* ZONEMD: RFC 8976, 2.2 */
+    {64, "-2np"},       /* SVCB: RFC 9460, 2.2 */
+    {65, "-2np"},       /* HTTPS: RFC 9460, 2.2 */
+    {99, "C"},          /* SPF: RFC 4408, 3.1.1 */
+    {104, "28"},        /* NID: RFC 6742, 2.1 */
+    {105, "2a"},        /* L32: RFC 6742, 2.2 */
+    {106, "28"},        /* L64: RFC 6742, 2.3 */
+    {107, "2n"},        /* LP: RFC 6742, 2.4 */
+    {108, "6"},         /* EUI48: RFC 7043, 3 */
+    {109, "8"},         /* EUI64: RFC 7043, 4 */
+    {249, "nTT22bb"},   /* TKEY: RFC 2930, 2 */
+    {250, "n62b22b"},   /* TSIG: RFC 8945, 4.2 */
+    {256, "22q"},       /* URI: RFC 7553, 4 */
+    {257, "1gq"},       /* CAA: RFC 8659, 4.1 */
+    {258, "C"},         /* AVC */
+    {32769, "211x"},    /* DLV: RFC 4431, 2 */
 };
+
+const char *field_letters(unsigned type, unsigned class_)
+{
+    size_t row;
+
+    for (row = 0; row < sizeof DATA / sizeof *DATA; row++)
+        if (DATA[row].type == type) {
+            if (DATA[row].fields[0] != '-')
+                return DATA[row].fields;
+            return class_ == DNSNAMES_CLASS_IN ? DATA[row].fields + 1 : "*";
+        }
+    return "*";
+}
+
+static int is_letter_or_digit(unsigned octet)
+{
+    return (octet >= '0' && octet <= '9') || (octet >= 'A' && octet <= 'Z') || (octet >= 'a' && octet <= 'z');
+}
+
+/* Blocks of a type bitmap, and parameters, from *at on to the end: each of the octets that name it, of those that count
+ * what follows, and of this. What names them ascends. */
+static uint32_t pass_ascending(const uint8_t *message, size_t end, size_t *at, int is_bitmap)
+{
+    long least = 0, name;
+    size_t len;
+
+    while (*at < end) {
+        if (end - *at < 2)
+            return DNSNAMES_SHORT_INPUT;
+        name = is_bitmap ? message[*at] : number16(message + *at);
+        if (name < least)
+            return is_bitmap ? DNSNAMES_WINDOW_ORDER : DNSNAMES_KEY_ORDER;
+        if (is_bitmap) {
+            len = message[*at + 1];
+            if (len == 0 || len > 32)
+                return DNSNAMES_BITMAP_LENGTH;
+            *at += 2;
+        } else {
+            if (end - *at < 4)
+                return DNSNAMES_SHORT_INPUT;
+            len = number16(message + *at + 2);
+            *at += 4;
+        }
+        if (end - *at < len)
+            return DNSNAMES_SHORT_INPUT;
+        *at += len;
+        least = name + 1;
+    }
+    return DNSNAMES_OK;
+}
+
+/* So many octets, and as many more as `counted` octets before them count. */
+static uint32_t pass_octets(const uint8_t *message, size_t end, size_t *at, size_t len, size_t counted)
+{
+    if (end - *at < counted)
+        return DNSNAMES_SHORT_INPUT;
+    if (counted != 0)
+        len += counted + (counted == 1 ? message[*at] : number16(message + *at));
+    if (end - *at < len)
+        return DNSNAMES_SHORT_INPUT;
+    *at += len;
+    return DNSNAMES_OK;
+}
+
+/* A field by its letter: *at becomes the offset after it. */
+static uint32_t pass_field(char letter, const uint8_t *message, size_t end, size_t *at)
+{
+    uint8_t name[255];
+    size_t begin = *at, len;
+    uint32_t status, through;
+
+    switch (letter) {
+    case '1': return pass_octets(message, end, at, 1, 0);
+    case '2': case 'y': return pass_octets(message, end, at, 2, 0);
+    case '4': case 't': case 's': case 'T': case 'a': return pass_octets(message, end, at, 4, 0);
+    case '6': return pass_octets(message, end, at, 6, 0);
+    case '8': return pass_octets(message, end, at, 8, 0);
+    case 'A': return pass_octets(message, end, at, 16, 0);
+    case 'n': return walk(message, end, begin, 255, name, &len, at, &through);
+    case 'o': return begin == end ? DNSNAMES_OK : pass_octets(message, end, at, 0, 1);
+    case 'c': case 'h': return pass_octets(message, end, at, 0, 1);
+    case 'b': return pass_octets(message, end, at, 0, 2);
+    case 'H':
+        status = pass_octets(message, end, at, 0, 1);
+        return status == DNSNAMES_OK && message[begin] == 0 ? DNSNAMES_EMPTY_HASH : status;
+    case 'g':
+        status = pass_octets(message, end, at, 0, 1);
+        if (status != DNSNAMES_OK)
+            return status;
+        for (len = begin + 1; len < *at; len++)
+            if (!is_letter_or_digit(message[len]))
+                return DNSNAMES_BAD_TAG;
+        return message[begin] == 0 ? DNSNAMES_BAD_TAG : DNSNAMES_OK;
+    case 'C':
+        do
+            status = pass_octets(message, end, at, 0, 1);
+        while (status == DNSNAMES_OK && *at < end);
+        return status;
+    case 'w': return begin == end ? DNSNAMES_SHORT_INPUT : pass_ascending(message, end, at, 1);
+    case 'W': return pass_ascending(message, end, at, 1);
+    case 'p': return pass_ascending(message, end, at, 0);
+    default: *at = end; return DNSNAMES_OK;
+    }
+}
+
+uint32_t SECOND(data_field)(const uint8_t *message, size_t message_len, size_t data, size_t data_len, uint16_t type,
+                            uint16_t class_, size_t index, dnsnames_field *field)
+{
+    const char *fields = field_letters(type, class_);
+    dnsnames_field found = {0, 0, 0, 0};
+    size_t k, at = data;
+    uint32_t status;
+
+    if (data > message_len || data_len > message_len - data)
+        return DNSNAMES_SHORT_INPUT;
+    for (k = 0; fields[k] != 0; k++) {
+        size_t begin = at, i;
+        status = pass_field(fields[k], message, data + data_len, &at);
+        if (status != DNSNAMES_OK)
+            return status;
+        if (k != index)
+            continue;
+        found.kind = (uint32_t)(strchr(KINDS, fields[k]) - KINDS + 1);
+        found.begin = begin;
+        found.end = at;
+        for (i = begin; found.kind <= 9 && i < at; i++)
+            found.number = found.number << 8 | message[i];
+    }
+    if (at < data + data_len)
+        return DNSNAMES_TRAILING_DATA;
+    if (index >= k)
+        return DNSNAMES_NO_MORE;
+    field->kind = found.kind;
+    field->begin = found.begin;
+    field->end = found.end;
+    field->number = found.number;
+    return DNSNAMES_OK;
+}
+
+/* The field of one of these letters with `index` such fields before it, of class IN. */
+static uint32_t find_field(const uint8_t *message, size_t message_len, size_t data, size_t data_len, uint16_t type,
+                           const char *letters, size_t index, dnsnames_field *field)
+{
+    const char *fields = field_letters(type, DNSNAMES_CLASS_IN);
+    size_t k;
+
+    for (k = 0; fields[k] != 0; k++)
+        if (strchr(letters, fields[k]) != NULL && index-- == 0)
+            return SECOND(data_field)(message, message_len, data, data_len, type, DNSNAMES_CLASS_IN, k, field);
+    return DNSNAMES_NO_FIELD;
+}
 
 uint32_t SECOND(data_name)(const uint8_t *message, size_t message_len, size_t data, size_t data_len, uint16_t type,
                            size_t index, uint8_t *buffer, size_t capacity, size_t *length)
 {
     uint8_t name[255];
-    size_t row, end, at, begin = 0, len, k;
-    uint32_t status, through;
+    dnsnames_field field;
+    size_t len, end;
+    uint32_t through, status = find_field(message, message_len, data, data_len, type, "n", index, &field);
 
-    for (row = 0; row < sizeof DATA / sizeof *DATA && DATA[row].type != type; row++)
-        ;
-    if (row == sizeof DATA / sizeof *DATA || index >= DATA[row].names)
-        return DNSNAMES_NO_FIELD;
-    if (data > message_len || data_len > message_len - data || data_len < DATA[row].before)
-        return DNSNAMES_SHORT_INPUT;
-    end = data + data_len;
-    at = data + DATA[row].before;
-    for (k = 0; k < DATA[row].names; k++) {
-        if (k == index)
-            begin = at;
-        status = SECOND(skip)(message, end, at, &at);
-        if (status != DNSNAMES_OK)
-            return status;
-    }
-    if (end - at != DATA[row].after)
-        return end - at < DATA[row].after ? DNSNAMES_SHORT_INPUT : DNSNAMES_TRAILING_DATA;
-    status = walk(message, end, begin, 255, name, &len, &at, &through);
-    return status == DNSNAMES_OK ? give(name, len, buffer, capacity, length) : status;
+    if (status != DNSNAMES_OK)
+        return status;
+    walk(message, data + data_len, field.begin, 255, name, &len, &end, &through);
+    return give(name, len, buffer, capacity, length);
 }
 
 uint32_t SECOND(data_number)(const uint8_t *message, size_t message_len, size_t data, size_t data_len,
                              uint16_t type, size_t index, uint32_t *value)
 {
-    size_t row, at, k, shorts;
-    uint32_t status;
+    dnsnames_field field;
+    uint32_t status = find_field(message, message_len, data, data_len, type, "124tsTy", index, &field);
 
-    for (row = 0; row < sizeof DATA / sizeof *DATA && DATA[row].type != type; row++)
-        ;
-    if (row == sizeof DATA / sizeof *DATA)
-        return DNSNAMES_NO_FIELD;
-    shorts = DATA[row].before / 2;
-    if (index >= shorts + DATA[row].after / 4)
-        return DNSNAMES_NO_FIELD;
-    if (data > message_len || data_len > message_len - data || data_len < DATA[row].before)
-        return DNSNAMES_SHORT_INPUT;
-    at = data + DATA[row].before;
-    for (k = 0; k < DATA[row].names; k++) {
-        status = SECOND(skip)(message, data + data_len, at, &at);
-        if (status != DNSNAMES_OK)
-            return status;
-    }
-    if (data + data_len - at != DATA[row].after)
-        return data + data_len - at < DATA[row].after ? DNSNAMES_SHORT_INPUT : DNSNAMES_TRAILING_DATA;
-    if (index < shorts) {
-        *value = number16(message + data + 2 * index);
-        return DNSNAMES_OK;
-    }
-    at += 4 * (index - shorts);
-    *value = (uint32_t)number16(message + at) << 16 | number16(message + at + 2);
-    return DNSNAMES_OK;
+    if (status == DNSNAMES_OK)
+        *value = (uint32_t)field.number;
+    return status;
 }
 
 uint32_t SECOND(data_address)(const uint8_t *message, size_t message_len, size_t data, size_t data_len,
                               uint16_t type, uint8_t *buffer, size_t capacity, size_t *length)
 {
-    size_t len = type == 1 ? 4 : type == 28 ? 16 : 0;
+    dnsnames_field field;
+    uint32_t status = find_field(message, message_len, data, data_len, type, "aA", 0, &field);
 
-    if (len == 0)
-        return DNSNAMES_NO_FIELD;
-    if (data > message_len || data_len > message_len - data || data_len < len)
-        return DNSNAMES_SHORT_INPUT;
-    return data_len > len ? DNSNAMES_TRAILING_DATA : give(message + data, len, buffer, capacity, length);
+    return status == DNSNAMES_OK ? give(message + field.begin, field.end - field.begin, buffer, capacity, length) : status;
 }
 
 uint32_t SECOND(data_string)(const uint8_t *message, size_t message_len, size_t data, size_t data_len,
                              uint16_t type, size_t *passed, size_t *string, size_t *string_len)
 {
-    if (type != 16 && type != 99)
+    if (strcmp(field_letters(type, DNSNAMES_CLASS_IN), "C") != 0)
         return DNSNAMES_NO_FIELD;
     if (data > message_len || data_len > message_len - data)
         return DNSNAMES_SHORT_INPUT;
@@ -1033,22 +1209,26 @@ static uint32_t build(dnsnames_builder *builder, const uint8_t *name, size_t len
  * 1035, and the data are its fields, with no pointer in a name. How many names there are; 0 where none may be. */
 static size_t ends_of_names(unsigned type, const uint8_t *data, size_t data_len, size_t ends[3])
 {
-    size_t row, at, k;
+    const char *fields = type > 15 ? "" : field_letters(type, DNSNAMES_CLASS_IN);
+    size_t begin = 0, names = 0, at;
 
-    for (row = 0; row < sizeof DATA / sizeof *DATA && DATA[row].type != type; row++)
-        ;
-    if (row == sizeof DATA / sizeof *DATA || type > 15 || data_len < DATA[row].before)
+    if (strspn(fields, "n2st") != strlen(fields))
         return 0;
-    ends[0] = DATA[row].before;
-    for (k = 0; k < DATA[row].names; k++) {
-        for (at = ends[k]; at < data_len && data[at] != 0; at += 1 + (size_t)data[at])
+    for (; *fields != 0; fields++) {
+        if (*fields != 'n') {
+            begin += *fields == '2' ? 2 : 4;
+            continue;
+        }
+        if (names == 0)
+            ends[0] = begin;
+        for (at = begin; at < data_len && data[at] != 0; at += 1 + (size_t)data[at])
             if (data[at] > 63)
                 return 0;
-        if (at >= data_len || at + 1 - ends[k] > 255)
+        if (at >= data_len || at + 1 - begin > 255)
             return 0;
-        ends[k + 1] = at + 1;
+        begin = ends[++names] = at + 1;
     }
-    return data_len - ends[k] == DATA[row].after ? k : 0;
+    return begin == data_len ? names : 0;
 }
 
 /* Writes a record whose data have so many names, each told over what ends with the owner's name: into a copy of the

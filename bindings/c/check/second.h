@@ -13,6 +13,9 @@
 #define SECOND(call) second_##call
 #endif
 
+/* The fields of data of a type in a class, a letter for each (second.c says which). */
+const char *field_letters(unsigned type, unsigned class_);
+
 uint32_t SECOND(read)(const uint8_t *message, size_t message_len, size_t offset, uint8_t limit, uint8_t *buffer,
                       size_t capacity, size_t *length, size_t *end, uint32_t *compressed);
 uint32_t SECOND(skip)(const uint8_t *message, size_t message_len, size_t offset, size_t *end);
@@ -47,6 +50,8 @@ uint32_t SECOND(is_answer)(const uint8_t *message, size_t message_len, const uin
                            uint32_t *yes);
 uint32_t SECOND(canonical_name)(const uint8_t *message, size_t message_len, uint16_t limit, uint8_t *buffer,
                                 size_t capacity, size_t *length);
+uint32_t SECOND(data_field)(const uint8_t *message, size_t message_len, size_t data, size_t data_len, uint16_t type,
+                            uint16_t class_, size_t index, dnsnames_field *field);
 uint32_t SECOND(data_name)(const uint8_t *message, size_t message_len, size_t data, size_t data_len, uint16_t type,
                            size_t index, uint8_t *buffer, size_t capacity, size_t *length);
 uint32_t SECOND(data_number)(const uint8_t *message, size_t message_len, size_t data, size_t data_len,

@@ -14,29 +14,31 @@ the package's wheel carries, else `libdnsnames.so.0` where the system finds it. 
 
 from ._library import VERSION as __version__
 from ._library import (
-    BadEscape, BadForm, BadLabelType, BadSymbol, BinaryLabel, CompressedName, DnsError, EmptyLabel, LongLabel, LongName,
-    NoBuilder, NoField, NoLabel, NoMnemonic, NoRoom, RelativeName, ShortInput, TooManyEntries, TooManyPointers,
-    TrailingData, WrongOrder,
+    BadEscape, BadForm, BadLabelType, BadSymbol, BadTag, BinaryLabel, BitmapLength, CompressedName, DnsError, EmptyHash,
+    EmptyLabel, KeyOrder, LongLabel, LongName, NoBuilder, NoField, NoLabel, NoMnemonic, NoRoom, RelativeName,
+    ShortInput, TooManyEntries, TooManyPointers, TrailingData, WindowOrder, WrongOrder,
 )
 from ._builder import Mark, MessageBuilder
+from ._fields import Field, FieldKind
 from ._message import Composer, EdnsOption, Header, Message, Opt, Question, Record
 from ._mnemonic import Class, Flags, Opcode, Rcode, Type
 from ._name import Name, Reading, read, skip
 
 for _public in (
-    BadEscape, BadForm, BadLabelType, BadSymbol, BinaryLabel, CompressedName, DnsError, EmptyLabel, LongLabel, LongName,
-    NoBuilder, NoField, NoLabel, NoMnemonic, NoRoom, RelativeName, ShortInput, TooManyEntries, TooManyPointers,
-    TrailingData, WrongOrder,
-    Mark, MessageBuilder, Class, Flags, Opcode, Rcode, Type, Composer, EdnsOption, Header, Message, Opt, Question,
-    Record, Name, Reading, read, skip,
+    BadEscape, BadForm, BadLabelType, BadSymbol, BadTag, BinaryLabel, BitmapLength, CompressedName, DnsError, EmptyHash,
+    EmptyLabel, KeyOrder, LongLabel, LongName, NoBuilder, NoField, NoLabel, NoMnemonic, NoRoom, RelativeName,
+    ShortInput, TooManyEntries, TooManyPointers, TrailingData, WindowOrder, WrongOrder,
+    Mark, MessageBuilder, Class, Flags, Opcode, Rcode, Type, Field, FieldKind, Composer, EdnsOption, Header, Message,
+    Opt, Question, Record, Name, Reading, read, skip,
 ):
     _public.__module__ = __name__
 del _public
 
 __all__ = [
-    "BadEscape", "BadForm", "BadLabelType", "BadSymbol", "BinaryLabel", "Class", "Composer", "CompressedName",
-    "DnsError", "EdnsOption", "EmptyLabel", "Flags", "Header", "LongLabel", "LongName", "Mark", "Message",
-    "MessageBuilder", "Name", "NoBuilder", "NoField", "NoLabel", "NoMnemonic", "NoRoom", "Opcode", "Opt",
-    "Question", "Rcode", "Reading", "Record", "RelativeName", "ShortInput", "TooManyEntries", "TooManyPointers",
-    "TrailingData", "Type", "WrongOrder", "read", "skip",
+    "BadEscape", "BadForm", "BadLabelType", "BadSymbol", "BadTag", "BinaryLabel", "BitmapLength", "Class", "Composer",
+    "CompressedName", "DnsError", "EdnsOption", "EmptyHash", "EmptyLabel", "Field", "FieldKind", "Flags", "Header",
+    "KeyOrder", "LongLabel", "LongName", "Mark", "Message", "MessageBuilder", "Name", "NoBuilder",
+    "NoField", "NoLabel", "NoMnemonic", "NoRoom", "Opcode", "Opt", "Question", "Rcode", "Reading", "Record",
+    "RelativeName", "ShortInput", "TooManyEntries", "TooManyPointers", "TrailingData", "Type", "WindowOrder",
+    "WrongOrder", "read", "skip",
 ]

@@ -78,7 +78,7 @@ class RelativeName(DnsError):
 
 
 class TrailingData(DnsError):
-    """Octets follow the root."""
+    """Octets follow the root, or the last field of data."""
 
     status, text = 7, "trailing data"
 
@@ -162,7 +162,37 @@ class BadForm(DnsError):
     status, text = 28, "an entry hasn't the form of one"
 
 
-# All strings or options of data were given: no fault, but the end.
+class BadTag(DnsError):
+    """A tag in data is empty, or has another octet than letters and digits (RFC 8659, 4.1)."""
+
+    status, text = 32, "invalid tag"
+
+
+class EmptyHash(DnsError):
+    """The hash in data of NSEC3 is empty (RFC 5155, 3.1.6)."""
+
+    status, text = 33, "empty hash"
+
+
+class WindowOrder(DnsError):
+    """The windows of a type bitmap don't ascend (RFC 4034, 4.1.2)."""
+
+    status, text = 34, "windows of a type bitmap don't ascend"
+
+
+class BitmapLength(DnsError):
+    """A block of a type bitmap has no octet or more than 32 (RFC 4034, 4.1.2)."""
+
+    status, text = 35, "a block of a type bitmap has no octet or more than 32"
+
+
+class KeyOrder(DnsError):
+    """The keys of service parameters don't ascend (RFC 9460, 2.2)."""
+
+    status, text = 36, "keys of service parameters don't ascend"
+
+
+# All fields, strings or options of data were given: no fault, but the end.
 NO_MORE = 27
 # Aliases lead to no name.
 NO_END = 30
@@ -172,7 +202,7 @@ FAULTS = {
     for fault in (
         ShortInput, BadLabelType, TooManyPointers, LongName, CompressedName, RelativeName, TrailingData, NoRoom,
         NoLabel, BadEscape, BadSymbol, BinaryLabel, LongLabel, EmptyLabel, NoField, NoMnemonic, NoBuilder,
-        WrongOrder, TooManyEntries, BadForm,
+        WrongOrder, TooManyEntries, BadForm, BadTag, EmptyHash, WindowOrder, BitmapLength, KeyOrder,
     )
 }
 
@@ -194,6 +224,12 @@ class RecordFields(ctypes.Structure):
     _fields_ = [
         ("type", ctypes.c_uint16), ("class_", ctypes.c_uint16), ("ttl", ctypes.c_uint32), ("data", ctypes.c_size_t),
         ("data_len", ctypes.c_size_t), ("end", ctypes.c_size_t),
+    ]
+
+
+class DataField(ctypes.Structure):
+    _fields_ = [
+        ("kind", ctypes.c_uint32), ("begin", ctypes.c_size_t), ("end", ctypes.c_size_t), ("number", ctypes.c_uint64),
     ]
 
 
@@ -259,6 +295,9 @@ _ARGUMENTS = {
     "opcode_from_text": [_octets, _size, _to_16],
     "rcode_text": [ctypes.c_uint16, _buffer, _size, _to_size],
     "rcode_from_text": [_octets, _size, _to_16],
+    "data_field": [
+        _octets, _size, _size, _size, ctypes.c_uint16, ctypes.c_uint16, _size, ctypes.POINTER(DataField),
+    ],
     "data_name": [_octets, _size, _size, _size, ctypes.c_uint16, _size, _buffer, _size, _to_size],
     "data_number": [_octets, _size, _size, _size, ctypes.c_uint16, _size, _to_32],
     "data_address": [_octets, _size, _size, _size, ctypes.c_uint16, _buffer, _size, _to_size],

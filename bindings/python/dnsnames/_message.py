@@ -13,6 +13,7 @@ from ._library import (
     FAULTS, MAX_LEN, MAX_TABLE, NO_END, NO_MORE, ROW_LEN, Buffer, HeaderFields, NoField, NoRoom, Octets, OptFields,
     QuestionFields, RecordFields, Room, as_octets, as_size, library, refuse,
 )
+from ._fields import Field, fields_in
 from ._mnemonic import Class, Flags, Opcode, Rcode, Type, classes, types
 from ._name import AnyName, Name, as_name, read
 
@@ -131,11 +132,24 @@ class Record(NamedTuple):
             refuse(status, self.offset)
         return text[:-1]
 
-    def name_in_data(self, index: int = 0) -> Name:
-        """The name with so many names before it in the data; it doesn't leave them.
+    def fields(self) -> Tuple[Field, ...]:
+        """The fields of its data, in their order, by its type and class. Data of which nothing is known are one field of
+        octets.
 
-        Raises NoField where data of this type have no such name, ShortInput where a name or what follows it ends past
-        the data, TrailingData where they go on, and what `read` raises.
+        >>> record = next(Message(bytes.fromhex("1234 8180 0000 0001 0000 0000 00 000f 0001 0000003c 0005 000a016d00")).answers())
+        >>> [field.value for field in record.fields()]
+        [10, Name('m.')]
+
+        The data are read whole or not at all: raises their first error, from the left. That is ShortInput where they end
+        inside a field or where one is due, what `read` raises of a name, BadTag, EmptyHash, WindowOrder,
+        BitmapLength, KeyOrder, or TrailingData where octets follow the last field.
+        """
+        return tuple(fields_in(self.message, self.data_offset, len(self.data), self.type, self.class_))
+
+    def name_in_data(self, index: int = 0) -> Name:
+        """The name with so many names before it in the data, as of class IN; it doesn't leave them.
+
+        Raises NoField where data of this type have no such name, and what `fields` raises of the data.
         """
         buffer, length = Buffer(), c_size_t()
         status = library.dnsnames_data_name(
@@ -147,7 +161,7 @@ class Record(NamedTuple):
         return Name._of(buffer[: length.value])
 
     def names_in_data(self) -> Tuple[Name, ...]:
-        """All names in the data: none, one or two. Raises as `name_in_data`, but not NoField."""
+        """All names in the data, as of class IN: none, one or two. Raises as `name_in_data`, but not NoField."""
         names = []
         try:
             while True:
@@ -156,10 +170,10 @@ class Record(NamedTuple):
             return tuple(names)
 
     def number(self, index: int = 0) -> int:
-        """The number with so many numbers before it in the data: the preference of MX, RT, PX and KX, the subtype of
-        AFSDB, the priority, weight and port of SRV, the serial, refresh, retry, expire and minimum of SOA.
+        """The number of at most 32 bits with so many such numbers before it in the data, as of class IN: of MX the
+        preference, of SRV priority, weight and port, of SOA serial, refresh, retry, expire and minimum.
 
-        Raises NoField where data of this type have no such number, and what `name_in_data` raises of the data.
+        Raises NoField where data of this type have no such number, and what `fields` raises of the data.
         """
         value = c_uint32()
         status = library.dnsnames_data_number(*self._data(), as_size(index), byref(value))
@@ -168,8 +182,8 @@ class Record(NamedTuple):
         return value.value
 
     def address(self) -> Union[IPv4Address, IPv6Address]:
-        """The address of an A or AAAA record. Raises NoField for another type, ShortInput where the data have fewer octets
-        than the address, TrailingData where they have more."""
+        """The first address in the data, as of class IN: of an A, AAAA or L32 record. Raises NoField for another type,
+        and what `fields` raises of the data."""
         buffer, length = Buffer(), c_size_t()
         status = library.dnsnames_data_address(*self._data(), buffer, MAX_LEN, byref(length))
         if status:
@@ -178,7 +192,7 @@ class Record(NamedTuple):
         return IPv4Address(octets) if len(octets) == 4 else IPv6Address(octets)
 
     def strings(self) -> Iterator[bytes]:
-        """The character strings of a TXT or SPF record, one after another. Raises NoField for another type, and
+        """The character strings of a TXT, SPF or AVC record, one after another. Raises NoField for another type, and
         ShortInput where the data have no string, or at the string in which they end."""
         passed, offset, length = c_size_t(), c_size_t(), c_size_t()
         while True:
@@ -334,9 +348,9 @@ class Message:
 
     def to_text(self) -> str:
         """The message as `dig` shows it: two lines of its header, and for each section its heading and a line for each
-        question or record. Data that can't be read by their type are shown as octets, and why (RFC 3597, 5). Owners and
-        names of questions are as in a zone: `;` `"` `(` `)` `@` `$` have a backslash before them, too. A last line says
-        how many octets follow the last record, if any do. Raises ShortInput where the message ends before all that its
+        question or record. Data that can't be read by their type are shown as octets, and why (RFC 3597, 5). Names
+        are as in a zone: `;` `"` `(` `)` `@` `$` have a backslash before them, too. A last line says how many octets
+        follow the last record, if any do. Raises ShortInput where the message ends before all that its
         header counts, BadForm where an entry hasn't the form of one: `shown` of the error is the text of all before that.
 
         >>> try:

@@ -109,8 +109,8 @@ class Zone:
     @classmethod
     def from_text(cls, text: Union[str, Octets], apex: Union[Name, str], class_: AnyClass = 1) -> Zone:
         """The zone of a text (RFC 1035, 5), at this apex and of this class. Until `$ORIGIN` says otherwise, relative
-        names go on with the apex; until a record says otherwise, its class is that of the zone. Names in data have
-        their final dot.
+        names go on with the apex, in data too, and `@` is the apex; until a record says otherwise, its class is that
+        of the zone.
 
         Raises ZoneError of a text that is that of no zone, and MemoryError.
         """

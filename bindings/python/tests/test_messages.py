@@ -367,6 +367,9 @@ def in_our_words(text: str) -> str:
     return "".join(f"{line}\n" for line in text.splitlines() if line)
 
 
+WITHOUT_FORM = r" (?:TYPE65280|(?:HS|ANY|NONE|CLASS4660) (?:A|AAAA|SRV|KX|PX|HTTPS)) \\# "
+
+
 @unittest.skipUnless(dns, "there is no dnspython")
 class Wholes(unittest.TestCase):
     def compare(self, ours: Parts, theirs: Parts) -> None:
@@ -383,8 +386,8 @@ class Wholes(unittest.TestCase):
                 self.compare(ours, parts_by_dnspython(octets))
                 headings = re.findall(r"^;; (\w+) SECTION$", text, re.MULTILINE)
                 self.assertEqual(headings, list(HEADINGS))
-                # Octets (RFC 3597, 5) for the type without a form alone.
-                self.assertEqual(text.count(r" \# "), len(re.findall(r" TYPE65280 \\# ", text)))
+                # Octets (RFC 3597, 5) for the type without a form, and in other classes for types that have one in IN alone.
+                self.assertEqual(text.count(r" \# "), len(re.findall(WITHOUT_FORM, text)))
                 seen |= {("opcode", ours.opcode), ("rcode", ours.rcode), *ours.flags}
                 seen |= {("class", it[1]) for it in ours.questions}
                 seen |= {("class", it[2], it[4] == b"") for it in sum(ours.records, [])}

@@ -17,8 +17,6 @@ try:
 except ImportError:
     dns = None
 
-# A zone file takes these otherwise. Names are shown as the Rust crate `domain` shows them, which doesn't escape them.
-SIGNS = b'"();'
 LETTERS = b"abcdefghijklmnopqrstuvwxyzABCDEFGHIJKLMNOPQRSTUVWXYZ0123456789-_"
 BASE64 = "QUJD", "RGVhciByZWFkZXI=", "AQIDBAUGBwgJCgsMDQ4PEA=="
 TYPES = "A", "NS", "MX", "TXT", "AAAA", "SRV", "NAPTR", "DS", "RRSIG", "NSEC", "CAA", "TYPE1234"
@@ -32,7 +30,7 @@ class Words:
         self.pool = [self._name() for _ in range(6)]
 
     def _label(self) -> bytes:
-        octets = [it for it in range(256) if it not in SIGNS] if self.random.random() < 0.2 else LETTERS
+        octets = range(256) if self.random.random() < 0.2 else LETTERS
         return bytes(self.random.choice(octets) for _ in range(self.random.choice((1, 2, 3, 7, 12))))
 
     def _name(self) -> "dns.name.Name":
@@ -84,6 +82,9 @@ class Words:
             "RRSIG": lambda: f"{self.random.choice(TYPES)} {n(8)} {n(8)} {n(32)} {time} {time} {n(16)} {name()} "
             + self.random.choice(BASE64),
             "NSEC": lambda: f"{name()} {self.types()}",
+            "NSEC3": lambda: f"1 {n(8)} {n(16)} {self.hexadecimal(4)} 2t7b4g4vsa5smi47k61mv5bv1a22bojr {self.types()}",
+            "CDNSKEY": lambda: f"{n(16)} 3 {n(8)} {self.random.choice(BASE64)}",
+            "SPF": self.string,
             "HTTPS": lambda: f"{self.random.randrange(1, 65536)} {name()} alpn=h2,h3 port={n(16)} ipv4hint=192.0.2.1",
             "TYPE65280": lambda: rf"\# 5 {self.hexadecimal(5)}",
         }

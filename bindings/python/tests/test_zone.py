@@ -102,6 +102,23 @@ class Zones(unittest.TestCase):
             [f"subdel.example. 3600 IN NS ns.example.{it}.".split() for it in ("com", "net")],
         )
 
+    def test_relative_names(self):
+        """In data names go on with the origin, too, and `@` is the origin (RFC 1035, 5.1)."""
+        from dnsnames import Message
+
+        text = TEXT.replace("ns.example. admin.example.", "ns admin").replace("NS ns.example.", "NS ns")
+        zone = self.Zone.from_text(text + "a MX 10 @\n$ORIGIN sub\na MX 10 b\n@ MX 10 b.\n", "example")
+        for name, answer in (
+            ("example", "example. 3600 IN NS ns.example."),
+            ("a.example", "a.example. 3600 IN MX 10 example."),
+            ("a.sub.example", "a.sub.example. 3600 IN MX 10 b.sub.example."),
+            ("sub.example", "sub.example. 3600 IN MX 10 b."),
+        ):
+            rtype = Type.NS if name == "example" else Type.MX
+            with self.subTest(name=name):
+                response = Message(zone.answer(query(name, rtype)))
+                self.assertEqual([it.to_text().split() for it in response.answers()], [answer.split()])
+
     def test_refusals(self):
         for text, line, column, index, reason in (
             ("$TTL 1h\n@ SOA a. b. 1 2 3 4 x\n", 2, 21, None, "not a number of this field"),

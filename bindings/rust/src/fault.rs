@@ -19,7 +19,7 @@ pub enum Fault {
     CompressedName,
     /// The octets of an absolute name end behind a label that isn't the root.
     RelativeName,
-    /// Octets follow the root of an absolute name.
+    /// Octets follow the root of an absolute name, or the last field of data.
     TrailingData,
     /// The buffer is too small. The number of octets that are needed, where it is known.
     NoRoom(Option<usize>),
@@ -45,6 +45,16 @@ pub enum Fault {
     TooManyEntries,
     /// An entry of a message hasn't the form of one: its name can't be read.
     BadForm,
+    /// A tag in data is empty, or has another octet than letters and digits (RFC 8659, 4.1).
+    BadTag,
+    /// The hash in data of NSEC3 is empty (RFC 5155, 3.1.6).
+    EmptyHash,
+    /// The windows of a type bitmap don't ascend (RFC 4034, 4.1.2).
+    WindowOrder,
+    /// A block of a type bitmap has no octet, or more than 32 (RFC 4034, 4.1.2).
+    BitmapLength,
+    /// The keys of service parameters don't ascend (RFC 9460, 2.2).
+    KeyOrder,
     /// What a newer library answers, by its number.
     Other(u32),
 }
@@ -72,6 +82,11 @@ impl Fault {
             Fault::WrongOrder => DNSNAMES_WRONG_ORDER,
             Fault::TooManyEntries => DNSNAMES_TOO_MANY_ENTRIES,
             Fault::BadForm => DNSNAMES_BAD_FORM,
+            Fault::BadTag => DNSNAMES_BAD_TAG,
+            Fault::EmptyHash => DNSNAMES_EMPTY_HASH,
+            Fault::WindowOrder => DNSNAMES_WINDOW_ORDER,
+            Fault::BitmapLength => DNSNAMES_BITMAP_LENGTH,
+            Fault::KeyOrder => DNSNAMES_KEY_ORDER,
             Fault::Other(status) => status,
         }
     }
@@ -99,6 +114,11 @@ impl Fault {
             DNSNAMES_WRONG_ORDER => Fault::WrongOrder,
             DNSNAMES_TOO_MANY_ENTRIES => Fault::TooManyEntries,
             DNSNAMES_BAD_FORM => Fault::BadForm,
+            DNSNAMES_BAD_TAG => Fault::BadTag,
+            DNSNAMES_EMPTY_HASH => Fault::EmptyHash,
+            DNSNAMES_WINDOW_ORDER => Fault::WindowOrder,
+            DNSNAMES_BITMAP_LENGTH => Fault::BitmapLength,
+            DNSNAMES_KEY_ORDER => Fault::KeyOrder,
             status => Fault::Other(status),
         })
     }
@@ -126,6 +146,11 @@ impl fmt::Display for Fault {
             Fault::WrongOrder => "a later section was begun",
             Fault::TooManyEntries => "too many entries in a section",
             Fault::BadForm => "an entry hasn\'t the form of one",
+            Fault::BadTag => "invalid tag",
+            Fault::EmptyHash => "empty hash",
+            Fault::WindowOrder => "windows of a type bitmap don\'t ascend",
+            Fault::BitmapLength => "a block of a type bitmap has no octet or more than 32",
+            Fault::KeyOrder => "keys of service parameters don\'t ascend",
             Fault::Other(_) => "refused by the library",
         })
     }

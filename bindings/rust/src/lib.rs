@@ -20,6 +20,7 @@ extern crate alloc;
 
 mod builder;
 mod fault;
+mod field;
 mod message;
 mod mnemonic;
 mod name;
@@ -29,6 +30,7 @@ mod table;
 
 pub use builder::MessageBuilder;
 pub use fault::Fault;
+pub use field::{Field, FieldKind};
 pub use message::{
     Composer, EdnsOption, Header, Message, Opt, Options, Question, Questions, Record, Records, Section, Strings,
 };

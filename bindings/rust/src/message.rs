@@ -1,6 +1,7 @@
 //! Messages.
 
 use crate::fault::Fault;
+use crate::field::Field;
 use crate::mnemonic::{Class, Opcode, Rcode, Type};
 use crate::name::{read, Name, Read};
 use crate::MAX_POINTERS;
@@ -158,8 +159,8 @@ impl<'a> Message<'a> {
 
     /// The text of the message as `dig` writes it, in the buffer: two lines of its header, and for each section its
     /// heading and a line for each question or record. Data that can't be read by their type are shown as octets, and why
-    /// (RFC 3597, 5). Owners and names of questions are as in a zone: `;` `"` `(` `)` `@` `$` have a backslash before
-    /// them, too. A last line says how many octets follow the last record, if any do.
+    /// (RFC 3597, 5). Names are as in a zone: `;` `"` `(` `)` `@` `$` have a backslash before them, too. A last line says
+    /// how many octets follow the last record, if any do.
     ///
     /// `NoRoom` has how many octets it is. `ShortInput` where the message ends before all that its header counts,
     /// `BadForm` where an entry hasn't the form of one.
@@ -214,10 +215,49 @@ impl<'a> Message<'a> {
         })
     }
 
-    /// The name with `index` names before it in the data of a record of this message; it doesn't leave them.
+    /// The field with `index` fields before it in the data of a record of this message, by its type and class; `None`
+    /// where there are no more. Data of which nothing is known are one field of octets.
     ///
-    /// `NoField` where data of this type have no such name. `ShortInput` where a name or what follows it ends past the
-    /// data, `TrailingData` where they go on, and the faults of [`read`].
+    /// The data are read whole or not at all, whatever `index` is: otherwise their first error, from the left.
+    /// `ShortInput` where they end inside a field or where one is due, `TrailingData` where octets follow the last one.
+    /// A fault of [`read`] at a name; `BadTag`, `EmptyHash`, `WindowOrder`, `BitmapLength`, `KeyOrder`.
+    ///
+    /// ```
+    /// use dnsnames::{FieldKind, Message};
+    ///
+    /// let message = Message::new(b"\0\0\x81\x80\0\0\0\x01\0\0\0\0\0\0\x0f\0\x01\0\0\0\0\0\x05\0\x0a\x01a\0");
+    /// let record = message.records()?.next().unwrap()?;
+    /// assert_eq!(message.field_in_data(&record, 0)?.unwrap().number, Some(10));
+    /// assert_eq!(message.field_in_data(&record, 1)?.unwrap().kind, FieldKind::Name);
+    /// assert_eq!(message.field_in_data(&record, 2), Ok(None));
+    /// # Ok::<(), dnsnames::Fault>(())
+    /// ```
+    pub fn field_in_data(&self, record: &Record<'_>, index: usize) -> Result<Option<Field<'a>>, Fault> {
+        let mut found = dnsnames_field::default();
+        // SAFETY: as in `read`.
+        let status = unsafe {
+            dnsnames_data_field(
+                self.octets.as_ptr(),
+                self.octets.len(),
+                record.data_offset,
+                record.data.len(),
+                record.rtype.0,
+                record.class.0,
+                index,
+                &mut found,
+            )
+        };
+        if status == DNSNAMES_NO_MORE {
+            return Ok(None);
+        }
+        Fault::check(status, None)?;
+        Ok(Some(Field::of(self.octets, found)))
+    }
+
+    /// The name with `index` names before it in the data of a record of this message, as of class IN; it doesn't leave
+    /// them.
+    ///
+    /// `NoField` where data of this type have no such name, and the faults of [`Message::field_in_data`].
     ///
     /// ```
     /// use dnsnames::{Fault, Message, MAX_LEN};
@@ -249,10 +289,9 @@ impl<'a> Message<'a> {
         Ok(Name::of(&buffer[..length]))
     }
 
-    /// The number with `index` numbers before it in the data of a record of this message: the preference of MX, RT, PX and
-    /// KX, the subtype of AFSDB, the priority, weight and port of SRV, the serial, refresh, retry, expire and minimum of
-    /// SOA. `NoField` where data of this type have no such number; the others as [`Message::name_in_data`] has them of the
-    /// data.
+    /// The number of at most 32 bits with `index` such numbers before it in the data of a record of this message, as of
+    /// class IN: of MX the preference, of SRV priority, weight and port, of SOA serial, refresh, retry, expire and minimum.
+    /// `NoField` where data of this type have no such number, and the faults of [`Message::field_in_data`].
     ///
     /// ```
     /// use dnsnames::{Fault, Message};
@@ -281,8 +320,8 @@ impl<'a> Message<'a> {
         Ok(value)
     }
 
-    /// The address of an A or AAAA record of this message. `NoField` where the type is another, `ShortInput` where the data
-    /// have fewer octets than the address, `TrailingData` where they have more.
+    /// The first address in the data of a record of this message, as of class IN: of A, AAAA and L32. `NoField` where data
+    /// of this type have none, and the faults of [`Message::field_in_data`].
     pub fn address_in_data(&self, record: &Record<'_>) -> Result<IpAddr, Fault> {
         let (mut octets, mut length) = ([0; 16], 0);
         // SAFETY: as in `read`.
@@ -305,7 +344,7 @@ impl<'a> Message<'a> {
         })
     }
 
-    /// The character strings of a TXT or SPF record of this message, one after another. Its fault ends them: `NoField` where
+    /// The character strings of a TXT, SPF or AVC record of this message, one after another. Its fault ends them: `NoField` where
     /// the type is another, `ShortInput` where the data have no string or end in one.
     ///
     /// ```

@@ -425,6 +425,40 @@ fn record_of(message: Message<'_>) -> Record<'_> {
 }
 
 #[test]
+fn fields_in_data() {
+    // SRV of class IN, and of class CH, of which it has no fields (RFC 2782).
+    let srv = of_data(33, 1, 0, b"\0\x01\0\x02\0\x35\0");
+    let message = Message::new(&srv);
+    let record = record_of(message);
+    let field = |index| message.field_in_data(&record, index).unwrap().unwrap();
+    assert_eq!([0, 1, 2, 3].map(|index| field(index).number), [Some(1), Some(2), Some(53), None]);
+    assert_eq!([2, 3].map(|index| field(index).kind), [FieldKind::Number16, FieldKind::Name]);
+    assert_eq!((field(3).offset, field(3).octets), (srv.len() - 1, &b"\0"[..]));
+    assert_eq!(message.field_in_data(&record, 4), Ok(None));
+    let other = message.field_in_data(&Record { class: Class::CH, ..record }, 0);
+    assert_eq!(other.unwrap().unwrap().kind, FieldKind::Octets);
+    let cut = Record { data: &record.data[..6], ..record };
+    assert_eq!(message.field_in_data(&cut, 0), Err(Fault::ShortInput));
+}
+
+/// Each fault of data that no name has.
+#[test]
+fn faults_of_data() {
+    for (rtype, data, fault) in [
+        (257, &b"\0\0"[..], Fault::BadTag),
+        (50, b"\x01\0\0\x0c\0\0", Fault::EmptyHash),
+        (47, b"\0\x01\x01\x40\0\x01\x40", Fault::WindowOrder),
+        (47, b"\0\0\0", Fault::BitmapLength),
+        (65, b"\0\x01\0\0\x03\0\0\0\x01\0\0", Fault::KeyOrder),
+        (15, b"\0\x01\0\0", Fault::TrailingData),
+    ] {
+        let octets = of_data(rtype, 1, 0, data);
+        let message = Message::new(&octets);
+        assert_eq!(message.field_in_data(&record_of(message), 0), Err(fault));
+    }
+}
+
+#[test]
 fn numbers_in_data() {
     // The record of RFC 1035, 5.3.
     let soa = of_data(6, 1, 0, b"\x01a\0\x01b\0\0\0\0\x14\0\0\x1c\x20\0\0\x02\x58\0\x36\xee\x80\0\0\0\x3c");

@@ -82,9 +82,10 @@ static void check_wildcards(void)
     dnsnames_zone_free(&zone);
 }
 
-/* The address of www.example., and its response (RFC 1034, 4.3.2): owners are compressed. */
-static const char SMALL[] = "$TTL 3600\n@ SOA ns.example. admin.example. 1 7200 900 1209600 86400\n"
-                            "@ NS ns.example.\nns A 192.0.2.1\nwww A 192.0.2.2\n";
+/* The address of www.example., and its response (RFC 1034, 4.3.2): owners are compressed. The names in data go on with
+ * the apex. */
+static const char SMALL[] = "$TTL 3600\n@ SOA ns admin 1 7200 900 1209600 86400\n"
+                            "@ NS ns\nns A 192.0.2.1\nwww A 192.0.2.2\n";
 
 static const char CHAOS[] = "$TTL 3600\n@ SOA ns.example. admin.example. 1 7200 900 1209600 86400\n@ NS ns.example.\n";
 

@@ -2,7 +2,7 @@
 
 use crate::typed::put_typed;
 use conformance_labels::{Answer, Fail, Fields, is};
-use domain_all_data::AllRecordData;
+use domain_any_rdata::AllRecordData;
 use domain_data::{A, Aaaa, Cname, Dname, Mx, Ns, Ptr, Soa, Srv};
 use domain_parsed::ParsedName;
 use domain_rdata::{CanonicalRecordData, ParseAnyRecordData, ParseRecordData, RecordData, Rtype};

@@ -1,21 +1,13 @@
 //! Two data of any type: their order, and whether they are equal.
 
-use crate::data::Read;
 use conformance_labels::{Answer, Fail, Fields};
-use domain_all_data::AllRecordData;
-use domain_name::Name;
+use domain_any_rdata::{AllRecordData, OwnedRecordData};
 use domain_rdata::{ParseAnyRecordData, Rtype};
 use domain_traits::FlattenInto;
 use domain_wire::CanonicalOrd;
 use octseq::Parser;
 use std::cmp::Ordering;
 use std::hash::{DefaultHasher, Hash, Hasher};
-
-/// Data over the octets that were read.
-type Lent<'a> = AllRecordData<&'a [u8], Read<'a>>;
-
-/// The same data over octets of its own.
-type Owned = AllRecordData<Vec<u8>, Name<Vec<u8>>>;
 
 /// `order TYPE OCTETS TYPE OCTETS`: the canonical order of the two, and whether they are equal. Over octets of their
 /// own they must be the same, and what is equal must have one hash.
@@ -30,7 +22,7 @@ pub fn put_order(out: &Answer, fields: &Fields<'_>) {
 }
 
 /// Data of this type that is all of the octets. `None` if an error was written.
-fn read<'a>(out: &Answer, rtype: u16, octets: &'a [u8]) -> Option<Lent<'a>> {
+fn read<'a>(out: &Answer, rtype: u16, octets: &'a [u8]) -> Option<AllRecordData<'a>> {
     let mut parser = Parser::from_ref(octets);
     match AllRecordData::parse_any_rdata(Rtype::from_int(rtype), &mut parser) {
         Ok(data) => Some(data),
@@ -42,7 +34,7 @@ fn read<'a>(out: &Answer, rtype: u16, octets: &'a [u8]) -> Option<Lent<'a>> {
 }
 
 /// The order of the two, and whether they are equal.
-fn put_both(out: &Answer, first: Lent<'_>, second: Lent<'_>) {
+fn put_both(out: &Answer, first: AllRecordData<'_>, second: AllRecordData<'_>) {
     let order = first.canonical_cmp(&second);
     let is_equal = first == second;
     out.put(match order {
@@ -53,7 +45,7 @@ fn put_both(out: &Answer, first: Lent<'_>, second: Lent<'_>) {
     out.put(if is_equal { b" same" } else { b" other" });
     let one_hash = hash_of(&first) == hash_of(&second);
     out.agree(one_hash || !is_equal, b"hash");
-    let owned: Option<(Owned, Owned)> = match (
+    let owned: Option<(OwnedRecordData, OwnedRecordData)> = match (
         first.try_flatten_into(out.alloc()),
         second.try_flatten_into(out.alloc()),
     ) {
@@ -70,7 +62,7 @@ fn put_both(out: &Answer, first: Lent<'_>, second: Lent<'_>) {
 }
 
 /// What the data writes to a hasher, as one number.
-fn hash_of(data: &Lent<'_>) -> u64 {
+fn hash_of(data: &AllRecordData<'_>) -> u64 {
     let mut hasher = DefaultHasher::new();
     data.hash(&mut hasher);
     hasher.finish()

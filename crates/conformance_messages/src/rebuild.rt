@@ -1,21 +1,16 @@
 //! A message that is read, and built anew.
 
-use crate::data::Read;
 use conformance_labels::Answer;
-use domain_all_data::AllRecordData;
+use domain_any_rdata::AllRecordData;
 use domain_compress::CompressComposer;
 use domain_message::{Message, ParsedRecord, Record, RecordSection, Section};
 use domain_message_builder::MessageBuilder;
-use domain_rdata::ParseAnyRecordData;
 use domain_wire::ParseError;
 use octseq::Octets;
 use std::fmt::Display;
 
 /// What a message is composed into, with names written shorter.
 type Target = CompressComposer<Vec<u8>>;
-
-/// Data of any type, as it is read.
-type AnyData<'a> = AllRecordData<&'a [u8], Read<'a>>;
 
 /// `rebuild OCTETS`: the octets of the message that is built of the entries that are read.
 pub fn put_rebuilt(out: &Answer, octets: &[u8]) {
@@ -103,7 +98,7 @@ fn is_refused<E: Display + Drop>(out: &Answer, error: E) -> bool {
     false
 }
 
-/// Pushes a record, its data by its type.
+/// Pushes a record, its data by its type and class.
 fn push_record(
     out: &Answer,
     section: Section,
@@ -111,7 +106,7 @@ fn push_record(
     made: &mut MessageBuilder<Target>,
 ) -> bool {
     let mut left = found.data();
-    let data = match AnyData::parse_any_rdata(found.rtype(), &mut left) {
+    let data = match AllRecordData::parse_in(found.rtype(), found.class(), &mut left) {
         Ok(data) => data,
         Err(error) => return is_refused(out, error),
     };

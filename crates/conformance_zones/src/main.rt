@@ -5,10 +5,12 @@
 #![tactic(auto)]
 
 mod answers;
+mod denials;
 mod fields;
 mod sections;
 mod zones;
 
+use crate::denials::put_denials;
 use crate::zones::put_zone;
 use conformance_labels::{Answer, Fail, Fields, Table, answer_table, is};
 use std::process::ExitCode;
@@ -21,6 +23,8 @@ impl Table for ZoneTable {
         fields.expect(4, out);
         if is(fields.at(0), b"zone") {
             put_zone(out, fields.at(1), fields.at(2), fields.at(3));
+        } else if is(fields.at(0), b"denial") {
+            put_denials(out, fields.at(1), fields.at(2), fields.at(3));
         } else {
             out.fail(Fail::Bad);
         }

@@ -12,9 +12,14 @@ use domain_zone_laws::zone::Rrset;
 
 /// `zone APEX RECORDS QUESTIONS`
 pub fn put_zone(out: &Answer, apex: &[u8], records: &[u8], questions: &[u8]) {
-    let Some(apex) = name_of(out, apex) else {
-        return;
-    };
+    if let Some(zone) = zone_of(out, apex, records) {
+        put_answers(out, &zone, questions);
+    }
+}
+
+/// The zone of records, with a sign for each of them. If it is none, or memory failed, that is noted.
+pub fn zone_of(out: &Answer, apex: &[u8], records: &[u8]) -> Option<Zone> {
+    let apex = name_of(out, apex)?;
     let mut builder = ZoneBuilder::new(out.alloc(), Class::from_int(1), apex);
     if !is(records, b"-") {
         for record in records.split(|octet| *octet == b';') {
@@ -22,9 +27,15 @@ pub fn put_zone(out: &Answer, apex: &[u8], records: &[u8], questions: &[u8]) {
         }
     }
     match builder.finish(out.alloc()) {
-        Ok(zone) => put_answers(out, &zone, questions),
-        Err(BuildError::Fault(_fault)) => out.put(b" no zone"),
-        Err(BuildError::Memory) => out.fail(Fail::Memory),
+        Ok(zone) => Some(zone),
+        Err(BuildError::Fault(_fault)) => {
+            out.put(b" no zone");
+            None
+        }
+        Err(BuildError::Memory) => {
+            out.fail(Fail::Memory);
+            None
+        }
     }
 }
 
@@ -54,7 +65,7 @@ fn put_inserted(out: &Answer, builder: &mut ZoneBuilder, record: &[u8]) {
 /// Appends the RRsets of a zone, and its answers to questions, `NAME/TYPE` each.
 fn put_answers(out: &Answer, zone: &Zone, questions: &[u8]) {
     for set in zone.rrsets() {
-        put_rrset(out, set);
+        put_rrset(out, b" ", set);
     }
     if is(questions, b"-") {
         return;
@@ -89,9 +100,9 @@ fn put_ttls(out: &Answer, set: &Rrset<Owner>) {
     }
 }
 
-/// Appends an RRset: its owner, type and TTL, and how many records it has.
-fn put_rrset(out: &Answer, set: &Rrset<Owner>) {
-    put_name(out, b" ", &set.owner);
+/// Appends an RRset after some octets: its owner, type and TTL, and how many records it has.
+pub fn put_rrset(out: &Answer, before: &[u8], set: &Rrset<Owner>) {
+    put_name(out, before, &set.owner);
     out.put_text_after(b"/", set.rtype);
     put_ttls(out, set);
     out.put_number_after(b"/", set.rdata.len());

@@ -1,3 +1,5 @@
 pub mod LabelOffsets
 pub mod Dots
 pub mod CompressedFlag
+pub mod FieldsIn
+pub mod Given

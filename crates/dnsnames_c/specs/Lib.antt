@@ -5,8 +5,11 @@ pub mod Labels
 pub mod Plans
 pub mod Messages
 pub mod Tables
+pub mod Fields
+pub mod Wanted
 pub mod Data
 pub mod Strings
+pub mod StringLaws
 pub mod Opts
 pub mod Mnemonics
 pub mod Builders

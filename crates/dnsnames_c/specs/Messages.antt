@@ -3,8 +3,8 @@ use Rattle.std.specs.Prelude.{◌≡◌, ◌⊎◌, ℕ, ◌≤◌, ◌<◌, Boo
 use Rattle.domain_reading.specs.Faults.{Skips, SkipFault}
 use Rattle.domain_reading.specs.declared.fault.NameFault.{NameFault}
 use Rattle.dnsnames_c.specs.Status.{fault_number}
-use Rattle.domain_offsets.specs.Entries.{LacksParts, EntryAt}
-use Rattle.domain_offsets.specs.declared.entry.Parts.{Parts}
+use Rattle.domain_buffer.specs.Entries.{LacksParts, EntryAt}
+use Rattle.domain_buffer.specs.declared.entry.Parts.{Parts}
 
 -- No question (true) or record (false) is at p, and this is the number of the fault: no name can be skipped there, or
 -- the message ends in the parts after it.

@@ -8,12 +8,14 @@ use Rattle.domain_buffer.specs.declared.rows.RowFault.{RowFault}
 use Rattle.domain_buffer.specs.declared.rows.RowFault.TheVariants as table
 use Rattle.domain_builder.specs.declared.name_symbol.TextFault.{TextFault}
 use Rattle.domain_builder.specs.declared.name_symbol.TextFault.TheVariants as text
+use Rattle.domain_descriptor.specs.declared.fault.DataFault.{DataFault}
+use Rattle.domain_descriptor.specs.declared.fault.DataFault.TheVariants as within
+use Rattle.domain_descriptor.specs.declared.kind.FieldKind.{FieldKind}
+use Rattle.domain_descriptor.specs.declared.kind.FieldKind.TheVariants as kinds
 use Rattle.domain_flat.specs.declared.error.NameErrorKind.{NameErrorKind}
 use Rattle.domain_flat.specs.declared.error.NameErrorKind.TheVariants.{BadLabel, CompressedName, LongName, RelativeName, TrailingData, ShortInput}
 use Rattle.domain_flat.specs.declared.error.RelativeNameErrorKind.{RelativeNameErrorKind}
 use Rattle.domain_flat.specs.declared.error.RelativeNameErrorKind.TheVariants as relative
-use Rattle.domain_offsets.specs.declared.fault.DataFault.{DataFault}
-use Rattle.domain_offsets.specs.declared.fault.DataFault.TheVariants as within
 use Rattle.domain_reading.specs.declared.fault.NameFault.{NameFault}
 use Rattle.domain_reading.specs.declared.fault.NameFault.TheVariants as reading
 
@@ -24,12 +26,45 @@ fault_number reading.BadLabelType = 2
 fault_number reading.TooManyPointers = 3
 fault_number reading.LongName = 4
 
--- of data that have no such field
+-- of octets that aren't data of a type
 abbrev pub data_number : DataFault → ℕ
-data_number within.NoField = 21
 data_number within.ShortInput = 1
-data_number within.TrailingData = 7
 data_number (within.Name f) = fault_number f
+data_number within.InvalidTag = 32
+data_number within.EmptyHash = 33
+data_number within.WindowOrder = 34
+data_number within.BitmapLength = 35
+data_number within.KeyOrder = 36
+data_number within.TrailingData = 7
+
+-- of a kind of fields
+abbrev pub kind_number : FieldKind → ℕ
+kind_number kinds.Number8 = 1
+kind_number kinds.Number16 = 2
+kind_number kinds.Number32 = 3
+kind_number kinds.Number48 = 4
+kind_number kinds.Number64 = 5
+kind_number kinds.Ttl = 6
+kind_number kinds.Serial = 7
+kind_number kinds.Time = 8
+kind_number kinds.Rtype = 9
+kind_number kinds.Ipv4 = 10
+kind_number kinds.Ipv6 = 11
+kind_number kinds.Name = 12
+kind_number kinds.CharString = 13
+kind_number kinds.OptionalString = 14
+kind_number kinds.CharStrings = 15
+kind_number kinds.Tag = 16
+kind_number kinds.QuotedText = 17
+kind_number kinds.CountedBase16 = 18
+kind_number kinds.CountedBase32 = 19
+kind_number kinds.CountedBase64 = 20
+kind_number kinds.TypeBitmaps = 21
+kind_number kinds.OptionalTypeBitmaps = 22
+kind_number kinds.SvcParams = 23
+kind_number kinds.Base16 = 24
+kind_number kinds.Base64 = 25
+kind_number kinds.Octets = 26
 
 -- of why no more entries were put into a table, or of none, where all were
 abbrev pub table_number : Option RowFault → ℕ

@@ -5,8 +5,8 @@ ghost use Rattle.dnsnames_c.specs.Answers.{Sets};
 ghost use Rattle.dnsnames_c.specs.Messages.{TellsHeader, GivesQuestionParts, GivesRecordParts};
 
 use crate::read::number_of;
+use domain_buffer::entry::{question_after, record_after};
 use domain_header::numbers::number_of_16_bits;
-use domain_offsets::entry::{question_after, record_after};
 use domain_reading::uncounted::encoding_end;
 
 /// The twelve octets that a message begins with, as six numbers (RFC 1035, 4.1.1): its identifier, its flags, and how

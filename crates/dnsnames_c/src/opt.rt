@@ -4,8 +4,7 @@ ghost use Rattle.domain_message.specs.OptRecords.{taken_size, edns_version, dnss
 ghost use Rattle.dnsnames_c.specs.Answers.{Sets};
 ghost use Rattle.dnsnames_c.specs.Opts.{TellsOptType, extended_code, GivesDataOption};
 
-use crate::data::number_of_data;
-use domain_offsets::option_in;
+use domain_message::EdnsOption;
 
 /// Gives what an OPT record states by its class and its TTL (RFC 6891, 6.1.2 and 6.1.3). The first is how many octets
 /// its sender takes in a message over UDP, or 512 where it states fewer (6.2.3). The second is the response code of
@@ -62,15 +61,22 @@ pub extern "C" fn dnsnames_data_option(
     ensures option { result ≢ 0 → option.new ≡ option.old }
     ensures option_len { result ≢ 0 → option_len.new ≡ option_len.old }
 {
-    match option_in(message, data_at, data_len, rtype, *passed) {
-        Ok(Some(found)) => {
-            *code = found.code;
-            *option = data_at + *passed + 4;
-            *option_len = found.data.len();
-            *passed = *passed + 4 + found.data.len();
-            0
-        }
-        Ok(None) => 27,
-        Err(fault) => number_of_data(fault),
+    if rtype != 41 {
+        return 21;
     }
+    if data_at > message.len() || message.len() - data_at < data_len {
+        return 1;
+    }
+    if *passed >= data_len {
+        return 27;
+    }
+    let octets = &message[..data_at + data_len];
+    let Some((found, _)) = EdnsOption::split_from(&octets[data_at + *passed..]) else {
+        return 1;
+    };
+    *code = found.code;
+    *option = data_at + *passed + 4;
+    *option_len = found.data.len();
+    *passed = *passed + 4 + found.data.len();
+    0
 }

@@ -9,18 +9,18 @@ use Rattle.domain_zone_response.specs.Responses.{Responds}
 use Rattle.domain_zone_response.specs.declared.edns.Server.{Server}
 use Rattle.dnsnames_zone_c.specs.Zones.{AnswersFrom, Gives, GivesResponse}
 
--- A message was made, and its octets are given.
+-- A message was made with room for 65,535 octets, and its octets are given.
 pub gives_response : {T : Type 0} (told : Option T) (made : T) (octets_of : T → List ℕ) (z : Zone) (server : Server) (query : List ℕ) (capacity : ℕ) (out : List ℕ) (status : ℕ) (old new : List ℕ) (old_len len : ℕ)
     → told ≡ Some made → IsNone told ↔ IsNoQuery query
     → IfSome told (λ it. Responds true (zone_view z) (class_number (zone_class z)) server capacity query (octets_of it))
-    → out ≡ octets_of made → Gives out status old new len → GivesResponse z server query status old new old_len len
-gives_response told made octets_of z server query capacity out status old new old_len len is none responds same gives =
+    → capacity ≡ 65535 → out ≡ octets_of made → Gives out status old new len → GivesResponse z server query status old new old_len len
+gives_response told made octets_of z server query capacity out status old new old_len len is none responds room same gives =
     let here = subst (λ t. IfSome t (λ it. Responds true (zone_view z) (class_number (zone_class z)) server capacity query (octets_of it))) is responds in
+    let with_room = subst (λ (n : ℕ). Responds true (zone_view z) (class_number (zone_class z)) server n query (octets_of made)) room here in
     inr (inl (
       (λ h. true≢false (sym (ap is_some is) ∙ none.1 h)),
-      capacity,
       out,
-      subst (λ (o : List ℕ). Responds true (zone_view z) (class_number (zone_class z)) server capacity query o) (sym same) here,
+      subst (λ (o : List ℕ). Responds true (zone_view z) (class_number (zone_class z)) server 65535 query o) (sym same) with_room,
       gives,
     ))
 

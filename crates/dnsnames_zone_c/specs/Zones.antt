@@ -1,5 +1,5 @@
 -- What the calls return, and what they leave in the caller's buffers.
-use Rattle.std.specs.Prelude.{◌≡◌, ◌⊎◌, ℕ, zero, suc, ◌≤◌, ◌<◌, List, length, true, IsSome}
+use Rattle.std.specs.Prelude.{◌≡◌, ◌⊎◌, ℕ, zero, suc, ◌≤◌, ◌<◌, List, length, true}
 use Rattle.std.specs.declared.option.Option.{Option}
 use Rattle.std.specs.declared.option.Option.TheVariants.{None, Some}
 use Rattle.dnsnames_zone_c.specs.Numbers.{error_place, load_number}
@@ -44,13 +44,13 @@ Gives octets status old new len =
     (len ≡ length octets) × (((status ≡ 0) × (length octets ≤ length old) × PutsAt 0 octets old new)
     ⊎ ((status ≡ 8) × (length old < length octets) × (new ≡ old)))
 
--- The message that answers the query from the zone z was given; or none is sent (41), or an allocation failed (42),
--- and nothing changed.
+-- The message that answers the query from the zone z was given, for which there was room for 65,535 octets, the most
+-- that a message has; or none is sent (41), or an allocation failed (42), and nothing changed.
 abbrev pub GivesResponse : Zone → Server → List ℕ → ℕ → List ℕ → List ℕ → ℕ → ℕ → Type 0
 GivesResponse z server query status old new old_len len =
     (IsNoQuery query × (status ≡ 41) × (new ≡ old) × (len ≡ old_len))
-    ⊎ ((IsNoQuery query → ⊥) × (capacity : ℕ) × (made : List ℕ)
-    × Responds true (zone_view z) (class_number (zone_class z)) server capacity query made
+    ⊎ ((IsNoQuery query → ⊥) × (made : List ℕ)
+    × Responds true (zone_view z) (class_number (zone_class z)) server 65535 query made
     × Gives made status old new len)
     ⊎ ((status ≡ 42) × (new ≡ old) × (len ≡ old_len))
 

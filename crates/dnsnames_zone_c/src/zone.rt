@@ -70,8 +70,8 @@ fn load_into(
 }
 
 /// Reads the text of a zone into a slot (RFC 1035, 5). The apex is a name in wire format. Until `$ORIGIN` says
-/// otherwise, relative names go on with the apex; until a record says otherwise, the class of records is that of the
-/// zone. A zone that the slot held is freed.
+/// otherwise, relative names go on with the apex, in data too, and `@` is the apex; until a record says otherwise, the
+/// class of records is that of the zone. A zone that the slot held is freed.
 ///
 /// 9 exactly where the apex is no absolute name. Each other number than 0 says why the text is that of no zone
 /// (`load_number`), and `line`, `column` and `index` say where (`error_place`): line and column are those of the first
@@ -124,7 +124,10 @@ fn server_with(stream: u32, payload_size: u16) -> Server
     }
 }
 
-/// Gives the message that answers a query from a zone.
+/// The octets that a message has at most (RFC 1035, 4.2.2).
+const LONGEST_MESSAGE: usize = 65535;
+
+/// Gives the message that answers a query from a zone. It has all its room before it is made.
 fn answer(
     alloc: Global,
     zone: &Zone,
@@ -136,8 +139,10 @@ fn answer(
     ensures { GivesResponse zone.now server query.now result buffer.old buffer.new length.old
         length.new }
 {
-    let target = CompressComposer::new(Vec::new(alloc));
-    match respond_to(alloc, zone, query, server, target) {
+    let Ok(room) = Vec::with_capacity(alloc, LONGEST_MESSAGE) else {
+        return 42;
+    };
+    match respond_to(alloc, zone, query, server, CompressComposer::new(room)) {
         Ok(None) => 41,
         Ok(Some(made)) => give(made.as_slice(), buffer, length),
         Err(_) => 42,

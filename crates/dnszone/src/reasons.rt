@@ -21,7 +21,7 @@ fn data_text(reason: Reason) -> &'static str {
         Reason::Time => "not a time",
         Reason::Ipv4 => "not an IPv4 address",
         Reason::Ipv6 => "not an IPv6 address",
-        Reason::Name => "not an absolute name with its final dot",
+        Reason::Name => "not a name",
         Reason::CharString => "not a character string",
         Reason::Tag => "not a tag of letters and digits",
         Reason::QuotedText => "not the text of octets",

@@ -83,6 +83,8 @@ pub use Rattle.domain_data.specs.KeyFields
 pub use Rattle.domain_data.specs.SignatureFields
 pub use Rattle.domain_txt.specs.Strings
 pub use Rattle.domain_txt.specs.Txts
-pub use Rattle.domain_all_data.specs.AllData
-pub use Rattle.domain_all_data.specs.AllTypes
+pub use Rattle.domain_any_rdata.specs.AllData
+pub use Rattle.domain_any_rdata.specs.Keys
+pub use Rattle.domain_any_rdata.specs.Owned
+pub use Rattle.domain_any_rdata.specs.Texts
 pub use Rattle.domain_parsed.specs.Parses

@@ -1,7 +1,7 @@
 //! Data of records by their types. The README.md of `domain_data` lists the calls, and that of `domain_svcb`
 //! those of SVCB and HTTPS.
 
-pub use domain_all_data::AllRecordData;
+pub use domain_any_rdata::{AllRecordData, OwnedRecordData};
 pub use domain_data::{
     A, Aaaa, Afsdb, Base16Octets, Base64Octets, Caa, CharString, Cname, Dname, Dnskey, Ds, Hinfo,
     InvalidTag, Kx, LastOctets, LongCharString, Mb, Md, Mf, Mg, Minfo, Mr, Mx, Naptr, Ns, Nsec,

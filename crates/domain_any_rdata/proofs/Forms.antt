@@ -28,7 +28,7 @@ known_is t false form = refl
 abbrev canonical : ℕ → Bool → List Part → List ℕ
 canonical t known xs = canonical_form t (parts_octets false xs) (if known then Some (parts_octets true xs) else None)
 
-lowered : (t : ℕ) (known lowercase : Bool) (xs : List Part) → lowercase ≡ (known && has_lowercase_names t) → parts_octets lowercase xs ≡ canonical t known xs
+pub lowered : (t : ℕ) (known lowercase : Bool) (xs : List Part) → lowercase ≡ (known && has_lowercase_names t) → parts_octets lowercase xs ≡ canonical t known xs
 lowered t known lowercase xs is = ap (λ b. parts_octets b xs) is ∙ sym (form_is t known (λ b. parts_octets b xs))
 
 pub canonical_grown : {U E : Type 0} (r : Result U E) (t : ℕ) (known lowercase compresses : Bool) (xs : List Part) (old new : List ℕ) → lowercase ≡ (known && has_lowercase_names t)

@@ -5,7 +5,13 @@ pub mod Naming
 pub mod Composed
 pub mod Lengths
 pub mod Forms
+pub mod Same
 pub mod Back
 pub mod ReadingBack
 pub mod Passing
+pub mod Cutting
+pub mod Keyed
+pub mod Owning
+pub mod Viewing
 pub mod Internet
+pub mod Telling

@@ -5,11 +5,13 @@ use Rattle.domain_reading.proofs.LabelsAt.{labels_named}
 use Rattle.domain_reading.proofs.Reading.{names_absolute}
 use Rattle.domain_reading.specs.Grammar.{Names}
 use Rattle.domain_any_rdata.proofs.Stopping.{field_stops}
-use Rattle.domain_descriptor.specs.Fields.{FormAt, FieldsAt, AreData}
+use Rattle.domain_descriptor.proofs.Exact.{data_or_fault}
+use Rattle.domain_descriptor.specs.Fields.{FormAt, FieldsAt, AreData, AreNoData}
 use Rattle.domain_descriptor.specs.Forms.{form}
 use Rattle.domain_descriptor.specs.Rdatas.{rdata_type, rdata_class, rdata_kinds, rdata_message, rdata_begin, field_kind, field_message, field_begin, field_after, kinds_left, fields_message, fields_offset, IsRdata, HasFieldsLeft, TakesField}
 use Rattle.domain_any_rdata.specs.Stops.{stop}
 use Rattle.domain_descriptor.specs.Table.{known_fields}
+use Rattle.domain_descriptor.specs.declared.fault.DataFault.{DataFault}
 use Rattle.domain_descriptor.specs.declared.form.FieldForm.{FieldForm}
 use Rattle.domain_descriptor.specs.declared.form.FieldForm.TheVariants as forms
 use Rattle.domain_descriptor.specs.declared.kind.FieldKind.{FieldKind}
@@ -18,7 +20,7 @@ use Rattle.domain_descriptor.specs.declared.rdata.Rdata.{Rdata}
 use Rattle.domain_descriptor.specs.declared.rdata.Field.{Field}
 use Rattle.domain_descriptor.specs.declared.rdata.FieldIter.{FieldIter}
 use Rattle.domain_fields.specs.Parts.{a_name, no_name}
-use Rattle.domain_any_rdata.specs.Parts.{form_part, field_part, parts_at, rdata_parts, part_of, parts_left, IsNamed, AreNamed}
+use Rattle.domain_any_rdata.specs.Parts.{form_part, field_part, parts_at, rdata_parts, part_of, parts_left, IsNamed, AreNamed, CantBeOthers, IsDataOf}
 
 -- ---- each part is named
 form_named : (it : FieldForm) (m : List ℕ) (p e : ℕ) → FormAt it m p e → IsNamed (form_part it m p (stop it m p))
@@ -136,3 +138,13 @@ parts_of_data rtype class m p it is =
 pub known_kinds : (rtype class : ℕ) (m : List ℕ) (p : ℕ) (it : Rdata) → IsRdata rtype class m p it → rdata_kinds it ≡ known_fields (rdata_type it) (rdata_class it)
 known_kinds rtype class m p it is =
     is.kinds ∙ ap (λ (t : ℕ). known_fields t class) (sym is.typed) ∙ ap (λ (c : ℕ). known_fields (rdata_type it) c) (sym is.classed)
+
+pub data_certain : (rtype class : ℕ) (m : List ℕ) (p : ℕ) (it : Rdata) → IsRdata rtype class m p it → AreData (known_fields rtype class) m p → IsDataOf it
+data_certain rtype class m p it is at =
+    subst (λ ks. CantBeOthers ks (rdata_message it) (rdata_begin it)) (sym is.kinds)
+    (subst (λ (x : List ℕ). CantBeOthers (known_fields rtype class) x (rdata_begin it)) (sym is.octets)
+    (subst (λ (x : ℕ). CantBeOthers (known_fields rtype class) m x) (sym is.begins) (λ none. none at)))
+
+-- octets that are data have no fault
+pub no_fault : (kinds : List FieldKind) (m : List ℕ) (p : ℕ) → CantBeOthers kinds m p → (why : DataFault) → AreNoData kinds m p why → ⊥
+no_fault kinds m p certain why fault = certain (λ at. data_or_fault kinds m p why at fault)

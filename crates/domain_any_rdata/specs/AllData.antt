@@ -44,9 +44,13 @@ are_fields_known rtype class = is_some (fields_in_class rtype class)
 abbrev pub is_known_data : AllRecordData → Bool
 is_known_data it = are_fields_known (data_type it) (data_class it)
 
--- the octets with all names in lowercase, if it is known which octets are names
+-- the octets of data of a type in a class with all names in lowercase, if it is known which octets are names
+abbrev pub lowered_octets : ℕ → ℕ → List Part → Option (List ℕ)
+lowered_octets rtype class parts = if are_fields_known rtype class then Some (parts_octets true parts) else None
+
+-- the octets of this data with all names in lowercase, if it is known which octets are names
 abbrev pub known_form : AllRecordData → Option (List ℕ)
-known_form it = if is_known_data it then Some (parts_octets true (data_parts it)) else None
+known_form it = lowered_octets (data_type it) (data_class it) (data_parts it)
 
 -- whether the canonical form has names in lowercase (RFC 4034, 6.2; RFC 6840, 5.1)
 abbrev pub has_lowered_names : AllRecordData → Bool

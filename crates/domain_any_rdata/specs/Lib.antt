@@ -6,4 +6,8 @@ pub mod Refusals
 pub mod Whole
 pub mod OneFault
 pub mod Reading
+pub mod Keys
+pub mod Readers
+pub mod Owned
 pub mod Back
+pub mod Texts

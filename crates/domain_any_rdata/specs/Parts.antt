@@ -1,10 +1,11 @@
 -- The fields of record data as parts: names, and octets that are no name (`Part` of domain_fields). Functions of the
 -- octets, so that ghost members can say them: where fields are, `parts_at` are what they are (proofs/Named).
-use Rattle.std.specs.Prelude.{ℕ, List, [], ◌∷◌, slice_range}
+use Rattle.std.specs.Prelude.{ℕ, List, [], ◌∷◌, drop, slice_range}
 use Rattle.std.specs.Coded.{×_prop, Unit-prop}
 use Rattle.domain_label.specs.Wire.{IsAbsoluteName}
 use Rattle.domain_label.proofs.WireLaws.{IsAbsoluteName_prop}
 use Rattle.domain_reading.specs.Labels.{labels_at}
+use Rattle.domain_descriptor.specs.Fields.{AreData}
 use Rattle.domain_descriptor.specs.Forms.{form}
 use Rattle.domain_descriptor.specs.Rdatas.{rdata_kinds, rdata_message, rdata_begin, field_kind, field_message, field_begin, field_after, kinds_left, fields_message, fields_offset}
 use Rattle.domain_any_rdata.specs.Stops.{field_stop}
@@ -39,13 +40,19 @@ abbrev pub parts_at : List FieldKind → List ℕ → ℕ → List Part
 parts_at [] m p = []
 parts_at (kind ∷ kinds) m p = field_part kind m p (field_stop kind m p) ∷ parts_at kinds m (field_stop kind m p)
 
--- those of record data, of one field, and of the remaining fields
+-- the octets of record data as they are in the message
+abbrev pub raw_octets : Rdata → List ℕ
+raw_octets it = drop (rdata_begin it) (rdata_message it)
+
+-- the parts of record data
 abbrev pub rdata_parts : Rdata → List Part
 rdata_parts it = parts_at (rdata_kinds it) (rdata_message it) (rdata_begin it)
 
+-- the part that a field is
 abbrev pub part_of : Field → Part
 part_of it = field_part (field_kind it) (field_message it) (field_begin it) (field_after it)
 
+-- the parts of the remaining fields
 abbrev pub parts_left : FieldIter → List Part
 parts_left it = parts_at (kinds_left it) (fields_message it) (fields_offset it)
 
@@ -65,3 +72,10 @@ IsNamed_prop (no_name octets) = Unit-prop
 pub AreNamed_prop : (xs : List Part) → IsProp (AreNamed xs)
 AreNamed_prop [] = Unit-prop
 AreNamed_prop (x ∷ xs) = ×_prop (IsNamed_prop x) (AreNamed_prop xs)
+
+-- The octets of m from p on are data with fields of these kinds: it is impossible that they aren't.
+abbrev pub CantBeOthers : List FieldKind → List ℕ → ℕ → Type 0
+CantBeOthers kinds m p = (AreData kinds m p → ⊥) → ⊥
+
+abbrev pub IsDataOf : Rdata → Type 0
+IsDataOf it = CantBeOthers (rdata_kinds it) (rdata_message it) (rdata_begin it)

@@ -7,7 +7,7 @@ ghost use Rattle.domain_header.specs.Values.{class_number};
 ghost use Rattle.domain_rdata.specs.Rtypes.{rtype_number};
 ghost use Rattle.domain_fields.specs.Parts.{parts_octets};
 ghost use Rattle.domain_any_rdata.specs.Composing.{PartsComposed, parts_written, parts_write, composed_form, type_plain, type_flat};
-ghost use Rattle.domain_any_rdata.specs.Parts.{AreNamed, AreNamed_prop, rdata_parts};
+ghost use Rattle.domain_any_rdata.specs.Parts.{AreNamed, AreNamed_prop, IsDataOf, raw_octets, rdata_parts};
 
 use crate::compose::compose_fields;
 use crate::len::uncompressed_len;
@@ -22,7 +22,10 @@ use domain_rdata::{CanonicalRecordData, ComposeRecordData, Composer, RecordData,
 #[derive(Clone, Copy, Debug)]
 pub struct AllRecordData<'m> {
     rdata: Rdata<'m>,
+    octets: &'m [u8],
+    ghost whole: { octets.now ≡ raw_octets rdata },
     ghost known: { rdata_kinds rdata ≡ known_fields (rdata_type rdata) (rdata_class rdata) },
+    ghost certain: { IsDataOf rdata },
     ghost named: { AreNamed (rdata_parts rdata) } by { AreNamed_prop (rdata_parts rdata) },
 }
 
@@ -49,7 +52,10 @@ impl<'m> AllRecordData<'m> {
             (AreNoData (known_fields (rtype_number rtype) (class_number class)) message.now begin) }
     {
         match Rdata::parse(rtype.to_int(), class.to_int(), message, begin) {
-            Ok(rdata) => Ok(AllRecordData { rdata }),
+            Ok(rdata) => Ok(AllRecordData {
+                rdata,
+                octets: &message[begin..],
+            }),
             Err(fault) => Err(fault),
         }
     }
@@ -59,6 +65,13 @@ impl<'m> AllRecordData<'m> {
         ensures { result ≡ data_of self.now }
     {
         self.rdata
+    }
+
+    /// Returns the octets of the data as they are in the message: a name may end in a pointer.
+    pub fn octets(&self) -> &'m [u8]
+        ensures { result.now ≡ raw_octets (data_of self.now) }
+    {
+        self.octets
     }
 
     /// Returns the class of the record.

@@ -1,7 +1,12 @@
-//! Reads data of any type from a parser. The traits have no class, so the data is read as that of class IN.
-ghost use Rattle.std.specs.Prelude.{◌≡◌, true};
+//! Reads data of any type from a parser. The traits have no class, so by them the data is read as that of class IN.
+ghost use Rattle.std.specs.Prelude.{◌≡◌, length, true, IfOk, IfErr, OnOk, OnErr};
+ghost use Rattle.octseq.specs.Parsing.{message, position, MovesTo};
 ghost use Rattle.domain_wire.specs.Refusals.{refusal};
-ghost use Rattle.domain_any_rdata.specs.Reading.{InternetDataAt, NoInternetData, internet_data_reading};
+ghost use Rattle.domain_descriptor.specs.Fields.{AreData};
+ghost use Rattle.domain_descriptor.specs.Table.{known_fields};
+ghost use Rattle.domain_header.specs.Values.{class_number};
+ghost use Rattle.domain_rdata.specs.Rtypes.{rtype_number};
+ghost use Rattle.domain_any_rdata.specs.Reading.{NoDataAt, InternetDataAt, NoInternetData, internet_data_reading};
 ghost use Rattle.domain_any_rdata.specs.Refusals.{error_of_data};
 
 use crate::all::AllRecordData;
@@ -27,6 +32,45 @@ fn error_of_data(fault: DataFault) -> ParseError
     }
 }
 
+impl<'m> AllRecordData<'m> {
+    ghost use Rattle.domain_any_rdata.specs.AllData.{IsAllData};
+
+    /// Reads all remaining octets as data of this type in this class, and moves the parser to their end.
+    ///
+    /// # Errors
+    ///
+    /// Returns the error of the first fault from the left, like [`AllRecordData::parse`]. The parser is then
+    /// unchanged.
+    pub fn parse_in(
+        rtype: Rtype,
+        class: Class,
+        parser: &mut Parser<'m>,
+    ) -> Result<AllRecordData<'m>, ParseError>
+        ensures ok { IfOk result
+            (IsAllData (rtype_number rtype) (class_number class) (message parser.old)
+            (position parser.old)) }
+        ensures whole { OnOk result
+            (AreData (known_fields (rtype_number rtype) (class_number class)) (message parser.old)
+            (position parser.old)) }
+        ensures moved { OnOk result
+            (MovesTo parser.old parser.new (length (message parser.old))) }
+        ensures err { IfErr result
+            (NoDataAt (rtype_number rtype) (class_number class) (message parser.old)
+            (position parser.old)) }
+        ensures unchanged { OnErr result (parser.new ≡ parser.old) }
+    {
+        match AllRecordData::parse(rtype, class, parser.as_slice(), parser.pos()) {
+            Ok(it) => {
+                let Ok(()) = parser.advance(parser.remaining()) else {
+                    unreachable!();
+                };
+                Ok(it)
+            }
+            Err(fault) => Err(error_of_data(fault)),
+        }
+    }
+}
+
 /// Reads all remaining octets, at most 65,535, as the fields of the type. Errors are those of the type's own reader.
 impl<'m> ParseAnyRecordData<'m> for AllRecordData<'m> {
     ghost use Rattle.domain_any_rdata.specs.AllData.{SeenData, seen_data};
@@ -45,14 +89,9 @@ impl<'m> ParseAnyRecordData<'m> for AllRecordData<'m> {
         parser: &mut Parser<'m>,
     ) -> Result<AllRecordData<'m>, ParseError> {
         LongRecordData::check_len(parser.remaining())?;
-        match AllRecordData::parse(rtype, Class::from_int(1), parser.as_slice(), parser.pos()) {
-            Ok(it) => {
-                let Ok(()) = parser.advance(parser.remaining()) else {
-                    unreachable!();
-                };
-                Ok(it)
-            }
-            Err(fault) => Err(error_of_data(fault)),
+        match AllRecordData::parse_in(rtype, Class::from_int(1), parser) {
+            Ok(it) => Ok(it),
+            Err(e) => Err(e),
         }
     }
 

@@ -1,12 +1,16 @@
-//! Data of a few types, read and composed.
-use crate::AllRecordData;
+//! Data of a few types, read, composed, compared and owned.
+use crate::{AllRecordData, OwnedRecordData};
 use domain_descriptor::DataFault;
 use domain_fields::ReadBackData;
 use domain_header::Class;
 use domain_rdata::{
     CanonicalRecordData, ComposeRecordData, ParseAnyRecordData, ParseRecordData, RecordData, Rtype,
 };
-use octseq::Parser;
+use domain_traits::FlattenInto;
+use domain_wire::CanonicalOrd;
+use octseq::{OctetsFrom, Parser};
+use std::cmp::Ordering;
+use std::hash::{DefaultHasher, Hash, Hasher};
 
 /// The data of this type in class IN that the octets from an offset on are.
 fn read(rtype: u16, message: &[u8], begin: usize) -> Option<AllRecordData<'_>> {
@@ -14,6 +18,13 @@ fn read(rtype: u16, message: &[u8], begin: usize) -> Option<AllRecordData<'_>> {
         return None;
     }
     AllRecordData::parse(Rtype::from_int(rtype), Class::from_int(1), message, begin).ok()
+}
+
+/// What data writes to a hasher, as one number.
+fn hash_of<D: Hash>(data: &D) -> u64 {
+    let mut hasher = DefaultHasher::new();
+    data.hash(&mut hasher);
+    hasher.finish()
 }
 
 /// Data of MX (RFC 1035, 3.3.9) is composed as it was read, and its name in lowercase in the canonical form.
@@ -36,6 +47,22 @@ fn mail_exchange(rt: HostRuntime) {
     data.reads_back();
 }
 
+/// Names of MX are compared ignoring ASCII case, since the canonical form has them in lowercase (RFC 4034, 6.2).
+#[test]
+fn comparing(rt: HostRuntime) {
+    let lower = read(15, b"\x00\x0a\x04mail\x00", 0);
+    let upper = read(15, b"\x00\x0a\x04MAIL\x00", 0);
+    let longer = read(15, b"\x00\x0a\x04mail\x01a\x00", 0);
+    let (Some(lower), Some(upper), Some(longer)) = (lower, upper, longer) else {
+        return assert!(rt; false);
+    };
+    assert!(rt; lower == upper);
+    assert!(rt; lower.canonical_cmp(&upper) == Ordering::Equal);
+    assert_eq!(rt; hash_of(&lower), hash_of(&upper));
+    assert!(rt; lower != longer);
+    assert!(rt; lower.canonical_cmp(&longer) == Ordering::Less);
+}
+
 /// A name that ends in a pointer is composed with none, and keeps its case.
 #[test]
 fn pointers(rt: HostRuntime) {
@@ -49,6 +76,34 @@ fn pointers(rt: HostRuntime) {
     assert_eq!(rt; data.rtype().to_int(), 15);
 }
 
+/// The same data that owns its octets: its name is uncompressed, and keeps its case.
+#[test]
+fn owning(rt: HostRuntime) {
+    let message = b"\x03Com\x00\x00\x0a\x04mail\xc0\x00";
+    let Some(data) = read(15, message, 5) else {
+        return assert!(rt; false);
+    };
+    let made: Result<OwnedRecordData, _> = data.flatten_into(rt.alloc());
+    let Ok(owned) = made else {
+        return assert!(rt; false);
+    };
+    assert!(rt; owned.as_slice() == b"\x00\x0a\x04mail\x03Com\x00".as_slice());
+    assert!(rt; owned.as_data() == data);
+    assert_eq!(rt; hash_of(&owned), hash_of(&data));
+    let Ok(again) = OwnedRecordData::try_octets_from(rt.alloc(), data) else {
+        return assert!(rt; false);
+    };
+    assert!(rt; owned == again);
+    assert!(rt; owned.canonical_cmp(&again) == Ordering::Equal);
+    assert_eq!(rt; owned.rtype().to_int(), 15);
+    assert_eq!(rt; owned.class().to_int(), 1);
+    assert_eq!(rt; owned.rdlen(false), Some(12));
+    let mut octets = Vec::new(rt.alloc());
+    assert!(rt; owned.compose_canonical_rdata(&mut octets).is_ok());
+    assert!(rt; octets.as_slice() == b"\x00\x0a\x04mail\x03com\x00".as_slice());
+    assert!(rt; owned.knows_names());
+}
+
 /// Names of SVCB are never compressed (RFC 9460, 2.2), and keep their case in the canonical form (RFC 3597, 7).
 #[test]
 fn service_binding(rt: HostRuntime) {
@@ -60,6 +115,11 @@ fn service_binding(rt: HostRuntime) {
     assert!(rt; data.compose_canonical_rdata(&mut octets).is_ok());
     assert!(rt; octets.as_slice() == message.as_slice());
     assert_eq!(rt; data.rdlen(true), Some(5));
+    let Some(other) = read(64, b"\x00\x01\x01a\x00", 0) else {
+        return assert!(rt; false);
+    };
+    assert!(rt; data != other);
+    assert!(rt; data.canonical_cmp(&other) == Ordering::Less);
 }
 
 /// The class tells which fields data of A has (RFC 1035, 3.4.1).
@@ -74,6 +134,12 @@ fn classes(rt: HostRuntime) {
     };
     assert!(rt; !chaos.is_known());
     assert_eq!(rt; chaos.class().to_int(), 3);
+    let first = AllRecordData::parse(a, Class::from_int(3), &long[..4], 0);
+    let (Ok(first), Some(second)) = (first, read(1, &long[..4], 0)) else {
+        return assert!(rt; false);
+    };
+    assert!(rt; first != second);
+    assert!(rt; first.canonical_cmp(&second) == Ordering::Greater);
 }
 
 /// Octets of a type that isn't known are one field.
@@ -97,5 +163,5 @@ fn unknown(rt: HostRuntime) {
     assert!(rt; fields.next().is_none());
     let mut parser = Parser::from_ref(&octets);
     let read = AllRecordData::parse_rdata(Rtype::from_int(65280), &mut parser);
-    assert!(rt; matches!(read, Ok(Some(again)) if again.rtype().to_int() == 65280));
+    assert!(rt; matches!(read, Ok(Some(again)) if again == data));
 }

@@ -1,6 +1,7 @@
 pub mod Puts
 pub mod Writing
 pub mod Fronts
+pub mod Shapes
 pub mod Later
 pub mod Building
 pub mod Naming

@@ -8,10 +8,10 @@ use Rattle.domain_reading.specs.Faults.{Skips}
 use Rattle.domain_reading.proofs.OneEncoding.{front_once, names_skips}
 use Rattle.domain_buffer.specs.Puts.{PutsAt}
 use Rattle.domain_header.specs.Numbers.{number16}
-use Rattle.domain_offsets.specs.Entries.{HasParts, LacksParts}
+use Rattle.domain_buffer.specs.Entries.{HasParts, LacksParts}
 use Rattle.domain_buffer.specs.Rows.{entry_count, row, PartsAt, NoPartsAt, Tabled, AddsRow, HoldsRows}
 use Rattle.domain_buffer.specs.Rows.Tabled.{header, entry}
-use Rattle.domain_offsets.specs.declared.entry.Parts.{Parts}
+use Rattle.domain_buffer.specs.declared.entry.Parts.{Parts}
 use Rattle.domain_buffer.specs.declared.rows.Taken.{Taken}
 use Rattle.domain_buffer.proofs.Puts.{puts_both, puts_size}
 

@@ -1,13 +1,43 @@
 -- Data of records that have names which may be compressed (RFC 1035, 3.3 and 4.1.4).
-use Rattle.std.specs.Prelude.{◌≡◌, ◌≢◌, ◌⊎◌, ℕ, ◌*◌, ◌≤◌, List, [], ◌++◌, length, take, Option, Some, None, nat_le, if◌then◌else◌, MatchOption}
+use Rattle.std.specs.Prelude.{◌≡◌, ◌≢◌, ◌⊎◌, ℕ, ◌+◌, ◌≤◌, List, [], ◌++◌, length, take, Option, Some, None, nat_eq, if◌then◌else◌, MatchOption}
+use Rattle.std.specs.List.{fold}
 use Rattle.domain_label.specs.Wire.{IsAbsoluteWire}
-use Rattle.domain_offsets.specs.Shapes.{shape}
-use Rattle.domain_offsets.specs.declared.shape.Shape.{Shape}
+use Rattle.domain_descriptor.specs.Forms.{form as kind_form}
+use Rattle.domain_descriptor.specs.Table.{known_fields, compresses_names}
+use Rattle.domain_descriptor.specs.declared.form.FieldForm.{FieldForm}
+use Rattle.domain_descriptor.specs.declared.form.FieldForm.TheVariants as forms
+use Rattle.domain_descriptor.specs.declared.kind.FieldKind.{FieldKind}
 use Rattle.domain_buffer.specs.declared.data.NamedData.{NamedData}
+use Rattle.domain_buffer.specs.declared.data.Shape.{Shape}
 
--- what data of a type are in which names may be compressed: a type of RFC 1035, and no newer one (RFC 3597, 4)
+-- data of no field
+abbrev pub no_fields : Shape
+no_fields = record { before = 0; names = 0; after = 0 }
+
+-- these octets more, behind those that come before the names, or behind those after them
+abbrev pub with_octets : ℕ → Shape → Shape
+with_octets n s =
+    if nat_eq s.names 0 then record s { before = s.before + n } else record s { after = s.after + n }
+
+-- A field more that is read so: a name, or octets of a fixed number. Data with names that may be compressed have no
+-- others.
+abbrev pub with_form : Shape → FieldForm → Shape
+with_form s forms.Name = record s { names = s.names + 1 }
+with_form s (forms.Fixed n) = with_octets n s
+with_form s _ = s
+
+-- what data of these fields are, where names are one after another
+abbrev pub shape : List FieldKind → Shape
+shape kinds = fold (λ s kind. with_form s (kind_form kind)) no_fields kinds
+
+-- what data of a type are in which names may be compressed (RFC 3597, 4)
 abbrev pub compressed_shape : ℕ → Option Shape
-compressed_shape rtype = if nat_le rtype 15 then shape rtype else None
+compressed_shape rtype = if compresses_names rtype then Some (shape (known_fields rtype 1)) else None
+
+-- no more octets around the names than in data of a type whose names may be compressed
+pub record IsSmall (s : Shape) : Type 0 where
+  pub few_before : s.before ≤ 2
+  pub few_after : s.after ≤ 20
 
 -- the fields of such data: numbers, a name, another one or nothing, and numbers
 pub record Fields : Type 0 where
@@ -39,10 +69,10 @@ IsSecond names second =
 pub record IsNamed (rtype : ℕ) (f : Fields) : Type 0 where
   pub form : Shape
   pub known : compressed_shape rtype ≡ Some form
-  pub shorts : length f.before ≡ 2 * form.shorts
+  pub before : length f.before ≡ form.before
   pub first : IsAbsoluteWire f.first
   pub second : IsSecond form.names f.second
-  pub longs : length f.after ≡ 4 * form.longs
+  pub after : length f.after ≡ form.after
 
 -- The first n octets are an uncompressed name, and no other beginning is one.
 pub record IsNameFront (octets : List ℕ) (n : ℕ) : Type 0 where

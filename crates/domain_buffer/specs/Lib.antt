@@ -6,4 +6,5 @@ pub mod Named
 pub mod Pushing
 pub mod Rrsets
 pub mod Reading
+pub mod Entries
 pub mod Rows

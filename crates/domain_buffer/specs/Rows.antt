@@ -7,8 +7,8 @@ use Rattle.domain_reading.specs.Faults.{NameFaultAt, Skips}
 use Rattle.domain_reading.specs.declared.fault.NameFault.{NameFault}
 use Rattle.domain_buffer.specs.Puts.{PutsAt}
 use Rattle.domain_header.specs.Numbers.{number16}
-use Rattle.domain_offsets.specs.Entries.{EntryAt, LacksParts}
-use Rattle.domain_offsets.specs.declared.entry.Parts.{Parts}
+use Rattle.domain_buffer.specs.Entries.{EntryAt, LacksParts}
+use Rattle.domain_buffer.specs.declared.entry.Parts.{Parts}
 use Rattle.domain_buffer.specs.declared.rows.Filled.{Filled}
 use Rattle.domain_buffer.specs.declared.rows.RowFault.{RowFault}
 use Rattle.domain_buffer.specs.declared.rows.RowFault.TheVariants.{Name, ShortInput, NoRoom}

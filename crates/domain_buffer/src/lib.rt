@@ -4,6 +4,7 @@
 
 pub mod builder;
 pub mod data;
+pub mod entry;
 pub mod mark;
 pub mod named;
 pub mod plan;

@@ -4,10 +4,10 @@ ghost use Rattle.domain_header.specs.Numbers.{number16};
 ghost use Rattle.domain_buffer.specs.Puts.{PutsAt};
 ghost use Rattle.domain_buffer.specs.Rows.{row, AddsRow, NotTakenAfter, HoldsAll, StopsAfter};
 
+use crate::entry::{Parts, parts_after};
 use crate::put::put_at;
 use crate::read::read_into;
 use domain_header::numbers::number_of_16_bits;
-use domain_offsets::entry::{Parts, parts_after};
 use domain_reading::fault::NameFault;
 
 /// How many entries were taken, how many octets their names have, and the offset of the next entry in the message.

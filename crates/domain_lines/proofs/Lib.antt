@@ -1,6 +1,6 @@
-pub mod Naming
 pub mod InAndOut
 pub mod Showing
 pub mod Entries
 pub mod Laying
 pub mod Putting
+pub mod Recording

@@ -1,4 +1,3 @@
-pub mod Names
 pub mod Flags
 pub mod Edns
 pub mod Records

@@ -14,7 +14,7 @@ use Rattle.domain_message.specs.Texts.{spaced}
 use Rattle.domain_message.specs.declared.section.Section.{Section}
 use Rattle.domain_message.specs.declared.section.Section.TheVariants.{Answer, Authority, Additional}
 use Rattle.domain_lines.specs.Flags.{flag_text}
-use Rattle.domain_lines.specs.Names.{zone_name}
+use Rattle.domain_field_text.specs.Names.{zone_name}
 use Rattle.domain_lines.specs.Records.{IsEntryText}
 
 -- The flags that are set in the third and fourth octet of a header (RFC 1035, 4.1.1; AD and CD RFC 4035, 3.1.6 and

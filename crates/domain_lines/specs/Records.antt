@@ -10,9 +10,12 @@ use Rattle.domain_message.specs.Texts.{spaced}
 use Rattle.domain_message.specs.declared.section.Section.{Section}
 use Rattle.domain_message.specs.declared.section.Section.TheVariants.{Answer, Authority, Additional}
 use Rattle.domain_rdata.specs.AnyData.{unknown_text}
-use Rattle.domain_all_data.specs.AllData.{AllFields, AllDataAt, NoAllData, fields_text}
+use Rattle.domain_descriptor.specs.Fields.{AreData}
+use Rattle.domain_descriptor.specs.Table.{known_fields}
+use Rattle.domain_any_rdata.specs.Reading.{NoDataAt}
+use Rattle.domain_any_rdata.specs.Texts.{shown_data}
 use Rattle.domain_lines.specs.Edns.{remark, edns_line, another_text, AreOptionLines}
-use Rattle.domain_lines.specs.Names.{zone_name}
+use Rattle.domain_field_text.specs.Names.{zone_name}
 
 -- the octets of the data
 abbrev pub rdata_octets : RecordFields → List ℕ
@@ -34,18 +37,24 @@ line_text it text = spaced (zone_name it.header.owner) (spaced (decimal it.heade
 abbrev pub unread_text : RecordFields → ParseError → List ℕ
 unread_text it why = line_text it (unknown_text (rdata_octets it) ++ remark why)
 
--- The line of a record whose data is there as its type has it: owner, TTL, class, type, and the data.
-pub record IsTypedLine (it : RecordFields) (line : List ℕ) : Type 0 where
-  pub fields : AllFields
-  pub end : ℕ
-  pub data_is : AllDataAt it.header.rtype it.octets it.start fields end
-  pub is : line ≡ line_text it (fields_text fields)
+-- the line of a record with its data as its type and class have it
+abbrev pub typed_text : RecordFields → List ℕ
+typed_text it = line_text it (shown_data it.header.rtype it.header.class it.octets it.start)
 
--- The line of a record: with its data as its type has it, or with its octets and why they can't be read, or with none.
+-- Its data is there: exactly the fields of its type in its class.
+abbrev pub HasData : RecordFields → Type 0
+HasData it = AreData (known_fields it.header.rtype it.header.class) it.octets it.start
+
+-- Its data can't be read, and why.
+abbrev pub HasNoData : RecordFields → ParseError → Type 0
+HasNoData it why = NoDataAt it.header.rtype it.header.class it.octets it.start why
+
+-- The line of a record: with its data as its type and class have it, or with its octets and why they can't be read, or
+-- with none.
 pub data IsRecordLine (it : RecordFields) (line : List ℕ) : Type 0 where
   bare : IsBare it → line ≡ bare_text it → IsRecordLine it line
-  typed : (IsBare it → ⊥) → IsTypedLine it line → IsRecordLine it line
-  unread : (why : ParseError) → (IsBare it → ⊥) → NoAllData it.header.rtype it.octets it.start why → line ≡ unread_text it why → IsRecordLine it line
+  typed : (IsBare it → ⊥) → HasData it → line ≡ typed_text it → IsRecordLine it line
+  unread : (why : ParseError) → (IsBare it → ⊥) → HasNoData it why → line ≡ unread_text it why → IsRecordLine it line
 
 -- whether the labels are those of the root: one label without octets
 abbrev pub is_root : List (List ℕ) → Bool

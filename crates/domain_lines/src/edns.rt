@@ -1,14 +1,13 @@
 //! OPT records (RFC 6891, 6.1), as `dig` shows them.
 ghost use Rattle.std.specs.Prelude.{◌≡◌, ◌↔◌, Some, IsTrue, OnOk, OnErr};
-ghost use Rattle.std.specs.List.{flat_map};
 ghost use Rattle.domain_header.specs.Values.{class_number, ttl_seconds, rcode_number};
-ghost use Rattle.domain_rdata.specs.AnyData.{spaced_octet};
 ghost use Rattle.domain_message.specs.OptRecords.{dnssec_ok_bit, compact_ok_bit};
 ghost use Rattle.domain_lines.specs.Edns.{zero_text, status_text, edns_line, option_line, cut_option_line};
 ghost use Rattle.domain_lines.specs.Writing.{PutsOptions};
 
 use crate::flags::word_if;
 use crate::streams::Sink;
+use domain_field_text::{HexPairs, UnknownText};
 use domain_header::{Class, Rcode, Ttl};
 use domain_label::hex::hex_character;
 use domain_message::EdnsOption;
@@ -108,37 +107,6 @@ impl fmt::Display for EdnsLine {
     }
 }
 
-/// Each octet as a space and two hexadecimal digits.
-#[derive(Clone, Copy)]
-pub(crate) struct HexPairs<'a> {
-    pub(crate) octets: &'a [u8],
-}
-
-impl<'a> fmt::Display for HexPairs<'a> {
-    ghost output = { λ it. Some (flat_map spaced_octet it.octets.now) };
-
-    fn fmt<W: fmt::Write>(&self, f: &mut fmt::Formatter<W>) -> fmt::Result {
-        for octet in self.octets {
-            write!(f, "{}", HexPair(*octet))?;
-        }
-        Ok(())
-    }
-}
-
-/// A space, and an octet in two hexadecimal digits.
-#[derive(Clone, Copy)]
-struct HexPair(u8);
-
-impl fmt::Display for HexPair {
-    ghost output = { λ it. Some (spaced_octet it.0) };
-
-    fn fmt<W: fmt::Write>(&self, f: &mut fmt::Formatter<W>) -> fmt::Result {
-        let high = hex_character(self.0 / 16);
-        let low = hex_character(self.0 % 16);
-        write!(f, " {high}{low}")
-    }
-}
-
 /// The line of an option.
 #[derive(Clone, Copy)]
 struct OptionLine<'a> {
@@ -167,12 +135,11 @@ impl<'a> fmt::Display for CutOption<'a> {
     ghost output = { λ it. Some (cut_option_line it.octets.now) };
 
     fn fmt<W: fmt::Write>(&self, f: &mut fmt::Formatter<W>) -> fmt::Result {
-        let len = self.octets.len();
-        let digits = HexPairs {
+        let octets = UnknownText {
             octets: self.octets,
         };
         let why = ParseError::ShortInput;
-        write!(f, "; \\# {len}{digits} ; {why}")
+        write!(f, "; {octets} ; {why}")
     }
 }
 

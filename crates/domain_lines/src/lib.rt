@@ -7,7 +7,6 @@ mod edns;
 mod flags;
 pub mod laws;
 pub mod message;
-mod name;
 pub mod put;
 pub mod record;
 mod room;

@@ -11,9 +11,9 @@ ghost use Rattle.domain_lines.specs.Writing.{PutsQuestions, FewerAsked, PutsReco
 ghost use Rattle.domain_lines.specs.Writing.{PutsAsked, PutsAnswers, PutsAuthority, PutsRest, PutsPart, PutsPartOf};
 
 use crate::flags::word_if;
-use crate::name::ZoneName;
 use crate::record::write_entry;
 use crate::streams::Sink;
+use domain_field_text::ZoneName;
 use domain_header::{Header, HeaderCounts, Rcode};
 use domain_message::{ParsedRecord, Question, RtypeText, Section};
 use domain_parsed::ParsedName;

@@ -1,20 +1,18 @@
 //! The lines of a record.
 ghost use Rattle.std.specs.Prelude.{◌≡◌, ◌↔◌, Some, IsTrue, OnOk, OnErr, IfOk};
 ghost use Rattle.domain_message.specs.RecordModel.{record_fields};
-ghost use Rattle.domain_all_data.specs.AllData.{fields_text};
-ghost use Rattle.domain_all_data.specs.AllTypes.{all_fields};
+ghost use Rattle.domain_any_rdata.specs.AllData.{data_of};
+ghost use Rattle.domain_any_rdata.specs.Texts.{rdata_text};
 ghost use Rattle.domain_lines.specs.Records.{bare_text, line_text, unread_text, IsBare, has_opt_head, is_opt_in};
 ghost use Rattle.domain_lines.specs.Edns.{another_text};
 ghost use Rattle.domain_lines.specs.Writing.{PutsLine, PutsOpt, PutsEntry, TellsOpt};
 
-use crate::edns::{EdnsLine, HexPairs, write_options};
-use crate::name::ZoneName;
+use crate::edns::{EdnsLine, write_options};
 use crate::streams::Sink;
-use domain_all_data::AllRecordData;
+use domain_any_rdata::AllRecordData;
+use domain_field_text::{UnknownText, ZoneName};
 use domain_header::Rcode;
 use domain_message::{ParsedRecord, RtypeText, Section};
-use domain_parsed::ParsedName;
-use domain_rdata::ParseAnyRecordData;
 use domain_tool::tool::WriteFault;
 use domain_wire::ParseError;
 use std::fmt;
@@ -37,16 +35,16 @@ impl<'a> fmt::Display for BareLine<'a> {
     }
 }
 
-/// A record whose data was read by its type.
-#[derive(Drop)]
+/// A record whose data was read by its type and class.
+#[derive(Clone, Copy)]
 struct TypedLine<'a> {
     record: ParsedRecord<'a>,
-    rdata: AllRecordData<&'a [u8], ParsedName<&'a [u8]>>,
+    rdata: AllRecordData<'a>,
 }
 
 impl<'a> fmt::Display for TypedLine<'a> {
     ghost output = { λ it.
-        Some (line_text (record_fields it.record) (fields_text (all_fields it.rdata))) };
+        Some (line_text (record_fields it.record) (rdata_text (data_of it.rdata))) };
 
     fn fmt<W: fmt::Write>(&self, f: &mut fmt::Formatter<W>) -> fmt::Result {
         let owner = self.record.owner();
@@ -73,10 +71,9 @@ impl<'a> fmt::Display for UnreadLine<'a> {
         let (ttl, class) = (self.record.ttl(), self.record.class());
         let rtype = RtypeText::new(self.record.rtype());
         let octets = self.record.data_octets();
-        let len = octets.len();
-        let digits = HexPairs { octets };
+        let data = UnknownText { octets };
         let why = self.why;
-        write!(f, "{owner} {ttl} {class} {rtype} \\# {len}{digits} ; {why}")
+        write!(f, "{owner} {ttl} {class} {rtype} {data} ; {why}")
     }
 }
 
@@ -88,7 +85,8 @@ fn is_bare(found: &ParsedRecord<'_>) -> bool
     found.rdlen() == 0 && (class == 254 || class == 255)
 }
 
-/// Writes the line of a record, with its data as its type has it, or as octets with a remark where it can't be read.
+/// Writes the line of a record, with its data as its type and class have it, or as octets with a remark where it can't
+/// be read.
 pub fn write_record<W: Sink>(found: &ParsedRecord<'_>, output: &mut W) -> Result<(), WriteFault>
     ensures written { OnOk result (PutsLine found.now (W.takes output.old output.new)) }
     ensures failed { OnErr result (W.failed output.new) }
@@ -98,7 +96,7 @@ pub fn write_record<W: Sink>(found: &ParsedRecord<'_>, output: &mut W) -> Result
         return Ok(());
     }
     let mut data = found.data();
-    match AllRecordData::parse_any_rdata(found.rtype(), &mut data) {
+    match AllRecordData::parse_in(found.rtype(), found.class(), &mut data) {
         Ok(rdata) => {
             let record = *found;
             output.put_line(TypedLine { record, rdata })?;

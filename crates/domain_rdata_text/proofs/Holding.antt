@@ -15,8 +15,8 @@ use Rattle.domain_rdata_text.specs.Forms.{text_form}
 use Rattle.domain_rdata_text.specs.Laws.{AreOctets}
 use Rattle.domain_rdata_text.specs.Names.{is_name, are_labels_in}
 use Rattle.domain_rdata_text.specs.Texts.{has_text}
-use Rattle.domain_rdata_text.specs.Values.{Val, form_of_val, counted, val_octets, vals_octets, val_in, number8_in, number16_in, rtype_in, number32_in, time_in, ipv4_in, ipv6_in, string_in, optional_string_in, counted16_in, counted32_in, types_or, optional_types_or, strings_in, strings_or, is_tag, tag_in, ValueAt, ValuesAt}
-use Rattle.domain_rdata_text.specs.Values.Val.{number8, number16, number32, time, rtype, ipv4, ipv6, name, string, optional_string, strings, tag, quoted, base16, base64, counted16, counted32, types, optional_types, generic}
+use Rattle.domain_rdata_text.specs.Values.{Val, form_of_val, counted, val_octets, vals_octets, val_in, number8_in, number16_in, rtype_in, number32_in, ttl_in, time_in, ipv4_in, ipv6_in, string_in, optional_string_in, counted16_in, counted32_in, types_or, optional_types_or, strings_in, strings_or, is_tag, tag_in, ValueAt, ValuesAt}
+use Rattle.domain_rdata_text.specs.Values.Val.{number8, number16, number32, ttl, time, rtype, ipv4, ipv6, name, string, optional_string, strings, tag, quoted, base16, base64, counted16, counted32, types, optional_types, generic}
 use Rattle.domain_rdata_text.proofs.Octets.{octets_append, octets_range, same_pair}
 use Rattle.domain_rdata_text.proofs.Strung.{IsString, octets_of, all_short}
 use Rattle.domain_rdata_text.proofs.Windows.{AreTypes, are_bitmaps}
@@ -32,6 +32,7 @@ abbrev pub IsVal : Val → Type 0
 IsVal (number8 n) = n < 256
 IsVal (number16 n) = n < 65536
 IsVal (number32 n) = n < 4294967296
+IsVal (ttl n) = n < 4294967296
 IsVal (time n) = n < 4294967296
 IsVal (rtype n) = n < 65536
 IsVal (ipv4 os) = (length os ≡ 4) × AreOctets os
@@ -119,6 +120,15 @@ held32 (a ∷ b ∷ c ∷ d ∷ []) h =
     record { octets = octets32 a b c d h.1.0 h.1.1.0 h.1.1.1.0; val = low32 a b c d h.0 h.1.0 h.1.1.0 h.1.1.1.0; written = λ _. refl }
 held32 (a ∷ b ∷ c ∷ d ∷ e ∷ os) h = held_generic forms.Number32 (a ∷ b ∷ c ∷ d ∷ e ∷ os) h
 
+held_ttl : (os : List ℕ) → AreOctets os → Held forms.Ttl os (ttl_in os)
+held_ttl [] h = held_generic forms.Ttl [] h
+held_ttl (a ∷ []) h = held_generic forms.Ttl (a ∷ []) h
+held_ttl (a ∷ b ∷ []) h = held_generic forms.Ttl (a ∷ b ∷ []) h
+held_ttl (a ∷ b ∷ c ∷ []) h = held_generic forms.Ttl (a ∷ b ∷ c ∷ []) h
+held_ttl (a ∷ b ∷ c ∷ d ∷ []) h =
+    record { octets = octets32 a b c d h.1.0 h.1.1.0 h.1.1.1.0; val = low32 a b c d h.0 h.1.0 h.1.1.0 h.1.1.1.0; written = λ _. refl }
+held_ttl (a ∷ b ∷ c ∷ d ∷ e ∷ os) h = held_generic forms.Ttl (a ∷ b ∷ c ∷ d ∷ e ∷ os) h
+
 held_time : (os : List ℕ) → AreOctets os → Held forms.Time os (time_in os)
 held_time [] h = held_generic forms.Time [] h
 held_time (a ∷ []) h = held_generic forms.Time (a ∷ []) h
@@ -201,6 +211,7 @@ pub held_in : (form : TextForm) (os : List ℕ) → AreOctets os → Held form o
 held_in forms.Number8 os h = held8 os h
 held_in forms.Number16 os h = held16 os h
 held_in forms.Number32 os h = held32 os h
+held_in forms.Ttl os h = held_ttl os h
 held_in forms.Time os h = held_time os h
 held_in forms.Rtype os h = held_rtype os h
 held_in forms.Ipv4 os h = held_ipv4 os h
@@ -308,6 +319,7 @@ val_low : (v : Val) → IsVal v → AreOctets (val_octets v)
 val_low (number8 n) h = (h, tt)
 val_low (number16 n) h = (omega (arith, h), (omega arith, tt))
 val_low (number32 n) h = (omega (arith, h), (omega arith, (omega arith, (omega arith, tt))))
+val_low (ttl n) h = (omega (arith, h), (omega arith, (omega arith, (omega arith, tt))))
 val_low (time n) h = (omega (arith, h), (omega arith, (omega arith, (omega arith, tt))))
 val_low (rtype n) h = (omega (arith, h), (omega arith, tt))
 val_low (ipv4 os) h = h.1

@@ -5,6 +5,7 @@ pub mod Strung
 pub mod Tables
 pub mod Splitting
 pub mod Reading
+pub mod Naming
 pub mod Types
 pub mod Seconds
 pub mod Dotting

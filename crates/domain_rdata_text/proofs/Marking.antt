@@ -19,7 +19,7 @@ use Rattle.domain_rdata_text.specs.Strings.{quoted_octet, string_text}
 use Rattle.domain_rdata_text.specs.Symbols.{octet_text}
 use Rattle.domain_rdata_text.specs.Texts.{val_words, starts_mark, has_text, takes_all}
 use Rattle.domain_rdata_text.specs.Values.{Val, is_tag}
-use Rattle.domain_rdata_text.specs.Values.Val.{number8, number16, number32, time, rtype, ipv4, ipv6, name, string, optional_string, strings, tag, quoted, base16, base64, counted16, counted32, types, optional_types, generic}
+use Rattle.domain_rdata_text.specs.Values.Val.{number8, number16, number32, ttl, time, rtype, ipv4, ipv6, name, string, optional_string, strings, tag, quoted, base16, base64, counted16, counted32, types, optional_types, generic}
 use Rattle.domain_rdata_text.proofs.Colons.{ipv6_begins}
 use Rattle.domain_rdata_text.proofs.Holding.{IsVal}
 use Rattle.domain_rdata_text.proofs.Quintets.{digit_no_slash}
@@ -90,6 +90,7 @@ pub first_no_mark : (n : ℕ) (v : Val) (us : List (List ℕ)) → IsVal v → h
 first_no_mark n (number8 x) us h t l = no_mark (decimal x) (decimal_plain x (omega (arith, h)))
 first_no_mark n (number16 x) us h t l = no_mark (decimal x) (decimal_plain x (omega (arith, h)))
 first_no_mark n (number32 x) us h t l = no_mark (decimal x) (decimal_plain x (omega (arith, h)))
+first_no_mark n (ttl x) us h t l = no_mark (decimal x) (decimal_plain x (omega (arith, h)))
 first_no_mark n (time x) us h t l = no_mark (decimal x) (decimal_plain x (omega (arith, h)))
 first_no_mark n (rtype x) us h t l = no_mark (type_text x) (type_begins x)
 first_no_mark n (ipv4 os) us h t l = no_mark (ipv4_text os) (ipv4_plain os h.0 h.1)

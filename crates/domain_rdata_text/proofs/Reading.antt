@@ -1,14 +1,16 @@
 -- What is shown is read as it was.
-use Rattle.std.proofs.Common.{◌≡◌, ℕ, ◌+◌, ◌-◌, ◌*◌, ◌/◌, ◌%◌, ◌^◌, ◌<◌, ◌≤◌, Bool, true, false, ◌==◌, List, [], ◌∷◌, ◌++◌, cond, nat_lt, nat_le, map, length, Some, None, refl, sym, ap, ◌∙◌, append_assoc, append-nil, arith}
+use Rattle.std.proofs.Common.{◌≡◌, ℕ, ◌+◌, ◌-◌, ◌*◌, ◌/◌, ◌%◌, ◌^◌, ◌<◌, ◌≤◌, Bool, true, false, ◌==◌, List, [], ◌∷◌, ◌++◌, cond, nat_lt, nat_le, map, length, Option, Some, None, refl, sym, ap, ◌∙◌, append_assoc, append-nil, arith}
 use Rattle.std.specs.List.{AllByRecursion, flat_map}
 use Rattle.std.specs.Fmt.{decimal}
 use Rattle.std.proofs.lemmas.Bool.{false≢true, cond-true, cond-false, lt-ltb, le-leb}
 use Rattle.std.proofs.lemmas.Fmt.{decimal_by_steps, decimal_nonempty}
+use Rattle.domain_label.specs.Wire.{wire, Root}
+use Rattle.domain_label.proofs.WireLaws.{wire_append}
 use Rattle.domain_rdata_text.specs.declared.symbols.Symbol.{Symbol}
 use Rattle.domain_rdata_text.specs.declared.symbols.Symbol.TheVariants.{Plain, Escaped}
 use Rattle.domain_rdata_text.specs.declared.symbols.Part.TheVariants.{Whole, Slash, One, Two}
 use Rattle.domain_rdata_text.specs.Symbols.{symbols_from, is_digit, octet_text, in_digits}
-use Rattle.domain_rdata_text.specs.Names.{label_octet, label_text, name_text, is_special, is_unprinted, labels_from, is_root, is_name, only_name, name_of_some, read_name}
+use Rattle.domain_rdata_text.specs.Names.{label_octet, label_text, name_text, is_special, is_unprinted, is_alone, is_name, parts_from, name_parts, completed, name_of_some, read_name}
 use Rattle.domain_rdata_text.specs.Strings.{string_text, is_mark, is_hidden, last, quoted_from, string_of_some, only_short, read_quoted, read_string}
 use Rattle.domain_rdata_text.specs.Numbers.{read_number, number_from}
 use Rattle.domain_rdata_text.specs.Laws.{AreOctets}
@@ -70,18 +72,18 @@ label_tells : Tells is_special is_unprinted
 label_tells = record { digit = special_digit; plain = label_no_slash }
 
 label_step : (s u : Bool) (c : ℕ) → (s ≡ false → u ≡ false → (c == 46) ≡ false) → (s ≡ false → u ≡ false → (c == 34) ≡ false) → (ls : List (List ℕ)) (o : List ℕ) (ss : List Symbol)
-    → labels_from ls o (symbol_for s u c ∷ ss) ≡ labels_from ls (o ++ c ∷ []) ss
+    → parts_from ls o (symbol_for s u c ∷ ss) ≡ parts_from ls (o ++ c ∷ []) ss
 label_step true u c k j ls o ss = refl
 label_step false true c k j ls o ss = refl
 label_step false false c k j ls o ss =
-    cond-false (c == 46) (labels_from (ls ++ o ∷ []) [] ss) (cond (c == 34) None (labels_from ls (o ++ c ∷ []) ss)) (k refl refl)
-    ∙ cond-false (c == 34) None (labels_from ls (o ++ c ∷ []) ss) (j refl refl)
+    cond-false (c == 46) (parts_from (ls ++ o ∷ []) [] ss) (cond (c == 34) None (parts_from ls (o ++ c ∷ []) ss)) (k refl refl)
+    ∙ cond-false (c == 34) None (parts_from ls (o ++ c ∷ []) ss) (j refl refl)
 
-labels_each : (l : List ℕ) → AreOctets l → (ls : List (List ℕ)) (o : List ℕ) (ss : List Symbol) → labels_from ls o (map label_symbol l ++ ss) ≡ labels_from ls (o ++ l) ss
-labels_each [] b ls o ss = ap (λ (x : List ℕ). labels_from ls x ss) (sym (append-nil o))
+labels_each : (l : List ℕ) → AreOctets l → (ls : List (List ℕ)) (o : List ℕ) (ss : List Symbol) → parts_from ls o (map label_symbol l ++ ss) ≡ parts_from ls (o ++ l) ss
+labels_each [] b ls o ss = ap (λ (x : List ℕ). parts_from ls x ss) (sym (append-nil o))
 labels_each (c ∷ l) b ls o ss =
     label_step (is_special c) (is_unprinted c) c (label_no_dot c b.0) (label_no_quote c b.0) ls o (map label_symbol l ++ ss)
-    ∙ (labels_each l b.1 ls (o ++ c ∷ []) ss ∙ ap (λ (x : List ℕ). labels_from ls x ss) (append_assoc o (c ∷ []) l))
+    ∙ (labels_each l b.1 ls (o ++ c ∷ []) ss ∙ ap (λ (x : List ℕ). parts_from ls x ss) (append_assoc o (c ∷ []) l))
 
 names_symbols : (ls : List (List ℕ)) → AllByRecursion AreOctets ls → (ss : List Symbol) → symbols_from ss Whole (flat_map label_text ls) ≡ Some (ss ++ name_symbols ls)
 names_symbols [] b ss = ap Some (sym (append-nil ss))
@@ -95,27 +97,31 @@ names_symbols (l ∷ ls) b ss =
     ∙ (names_symbols ls b.1 ((ss ++ m) ++ p)
     ∙ ap Some (ap (λ (x : List Symbol). x ++ name_symbols ls) (append_assoc ss m p) ∙ append_assoc ss (m ++ p) (name_symbols ls))))
 
-names_labels : (ls : List (List ℕ)) → AllByRecursion AreOctets ls → (ks : List (List ℕ)) → labels_from ks [] (name_symbols ls) ≡ Some (ks ++ ls)
-names_labels [] b ks = ap Some (sym (append-nil ks))
+names_labels : (ls : List (List ℕ)) → AllByRecursion AreOctets ls → (ks : List (List ℕ)) → parts_from ks [] (name_symbols ls) ≡ Some (name_parts (ks ++ ls) [])
+names_labels [] b ks = ap (λ (x : List (List ℕ)). Some (name_parts x [])) (sym (append-nil ks))
 names_labels (l ∷ ls) b ks =
     let m = map label_symbol l in
-    ap (λ (x : List Symbol). labels_from ks [] x) (append_assoc m (Plain 46 ∷ []) (name_symbols ls))
+    ap (λ (x : List Symbol). parts_from ks [] x) (append_assoc m (Plain 46 ∷ []) (name_symbols ls))
     ∙ (labels_each l b.0 ks [] (Plain 46 ∷ name_symbols ls)
-    ∙ (names_labels ls b.1 (ks ++ l ∷ []) ∙ ap Some (append_assoc ks (l ∷ []) ls)))
+    ∙ (names_labels ls b.1 (ks ++ l ∷ []) ∙ ap (λ (x : List (List ℕ)). Some (name_parts x [])) (append_assoc ks (l ∷ []) ls)))
 
-not_root : (c : ℕ) (l : List ℕ) (ls : List (List ℕ)) → is_root (name_symbols ((c ∷ l) ∷ ls)) ≡ false
-not_root c [] ls = refl
-not_root c (d ∷ l) ls = refl
+not_alone : (a c : ℕ) (l : List ℕ) (ls : List (List ℕ)) → is_alone a (name_symbols ((c ∷ l) ∷ ls)) ≡ false
+not_alone a c [] ls = refl
+not_alone a c (d ∷ l) ls = refl
 
-pub name_back : (ls : List (List ℕ)) → is_name ls ≡ true → AllByRecursion AreOctets ls → read_name (name_text ls) ≡ Some ls
-name_back [] n b = refl
-name_back ([] ∷ ls) n b = absurd (false≢true n)
-name_back ((c ∷ l) ∷ ls) n b =
+-- with any origin and without one
+pub name_back : (origin : Option (List ℕ)) (ls : List (List ℕ)) → is_name ls ≡ true → AllByRecursion AreOctets ls → read_name origin (name_text ls) ≡ Some (wire (ls ++ Root))
+name_back origin [] n b = refl
+name_back origin ([] ∷ ls) n b = absurd (false≢true n)
+name_back origin ((c ∷ l) ∷ ls) n b =
     let all = (c ∷ l) ∷ ls in
     let ss = name_symbols all in
-    ap name_of_some (names_symbols all b [])
-    ∙ (cond-false (is_root ss) (Some []) (only_name (labels_from [] [] ss)) (not_root c l ls)
-    ∙ (ap only_name (names_labels all b []) ∙ cond-true (is_name all) (Some all) None n))
+    let whole = completed origin (parts_from [] [] ss) in
+    ap (name_of_some origin) (names_symbols all b [])
+    ∙ (cond-false (is_alone 64 ss) origin (cond (is_alone 46 ss) (Some (wire Root)) whole) (not_alone 64 c l ls)
+    ∙ (cond-false (is_alone 46 ss) (Some (wire Root)) whole (not_alone 46 c l ls)
+    ∙ (ap (completed origin) (names_labels all b [])
+    ∙ (cond-true (is_name all) (Some (wire all ++ wire Root)) None n ∙ ap Some (sym (wire_append all Root))))))
 
 -- ---- strings
 abbrev string_symbol : ℕ → Symbol

@@ -4,8 +4,9 @@ use Rattle.domain_rdata_text.specs.declared.error.Fault.{Fault}
 use Rattle.domain_rdata_text.specs.declared.error.ReadError.{ReadError}
 use Rattle.domain_rdata_text.specs.declared.error.ReadError.TheVariants.{Refused, Memory}
 use Rattle.domain_rdata_text.specs.declared.error.Reason.{Reason}
+use Rattle.domain_rdata_text.specs.declared.error.Reason.TheVariants as reasons
 use Rattle.domain_rdata_text.specs.Outcome.{fault}
-use Rattle.domain_rdata_text.specs.Texts.{with_octets, one}
+use Rattle.domain_rdata_text.specs.Texts.{with_octets, with_more, one}
 use Rattle.domain_rdata_text.specs.Values.{Val}
 use Rattle.domain_rdata_text.specs.Words.{WordAt}
 
@@ -18,6 +19,14 @@ refused_so r P e ref given err to f h =
     let bad = err (subst (λ x. e ≡ Refused x) same h) in
     to bad ∙ ap Err (sym same)
 
+-- which is given, and the word couldn't be read
+pub refused_and : (P : Type 0) (e : ReadError) (ref : Fault)
+    → ((g : Fault) → e ≡ Refused g → g ≡ ref) → (e ≡ Refused ref → P)
+    → (f : Fault) → e ≡ Refused f → (f ≡ ref) × P
+refused_and P e ref given err f h =
+    let same = given f h in
+    (same, err (subst (λ x. e ≡ Refused x) same h))
+
 -- of a field of one word
 pub one_refused : {A : Type 0} (g : A → Val) (os : List ℕ) (why : Reason) (w : WordAt) (ws : List WordAt) (o : Option A) (e : ReadError) (ref : Fault)
     → ref ≡ fault w.begin why → ((f : Fault) → e ≡ Refused f → f ≡ ref) → (e ≡ Refused ref → o ≡ None)
@@ -25,6 +34,14 @@ pub one_refused : {A : Type 0} (g : A → Val) (os : List ℕ) (why : Reason) (w
 one_refused {A} g os why w ws o e ref is given err =
     refused_so (one why w ws (with_octets g os o)) (o ≡ None) e ref given err
     (λ none. ap (λ (x : Option A). one why w ws (with_octets g os x)) none ∙ ap Err (sym is))
+
+-- of a name
+pub name_refused : (os : List ℕ) (w : WordAt) (ws : List WordAt) (o : Option (List ℕ)) (e : ReadError) (ref : Fault)
+    → ref ≡ fault w.begin reasons.Name → ((f : Fault) → e ≡ Refused f → f ≡ ref) → (e ≡ Refused ref → o ≡ None)
+    → (f : Fault) → e ≡ Refused f → one reasons.Name w ws (with_more os o) ≡ Err f
+name_refused os w ws o e ref is given err =
+    refused_so (one reasons.Name w ws (with_more os o)) (o ≡ None) e ref given err
+    (λ none. ap (λ (x : Option (List ℕ)). one reasons.Name w ws (with_more os x)) none ∙ ap Err (sym is))
 
 fault_in : Fault → ReadError → Fault
 fault_in d (Refused f) = f

@@ -1,7 +1,7 @@
 -- Tests of octets, by tables of 256 entries.
-use Rattle.std.proofs.Common.{◌≡◌, ℕ, ◌+◌, ◌/◌, ◌%◌, ◌<◌, Bool, true, false, ◌==◌, ◌||◌, ◌&&◌, refl}
+use Rattle.std.proofs.Common.{◌≡◌, ℕ, ◌+◌, ◌/◌, ◌%◌, ◌<◌, Bool, true, false, ◌==◌, ◌||◌, ◌&&◌, refl, sym, ap, ◌∙◌}
 use mathlib.Core.Bool.{not}
-use Rattle.std.proofs.lemmas.Bool.{agree_below_at, not-true, true≢false, false≢true}
+use Rattle.std.proofs.lemmas.Bool.{agree_below_at, not-true, true≢false, false≢true, ne_eqb}
 use Rattle.domain_rdata_text.specs.Words.{is_blank}
 use Rattle.domain_rdata_text.specs.Symbols.{is_digit}
 use Rattle.domain_rdata_text.specs.Names.{is_special, is_unprinted}
@@ -46,9 +46,19 @@ digit_no_quote d h = agree_below_at (λ n. 48 + n == 34) (λ n. false) 10 d refl
 pub digit_no_slash : (d : ℕ) → d < 10 → (48 + d == 92) ≡ false
 digit_no_slash d h = agree_below_at (λ n. 48 + n == 92) (λ n. false) 10 d refl h
 
+pub digit_no_end : (d : ℕ) → d < 10 → (48 + d == 10) ≡ false
+digit_no_end d h = agree_below_at (λ n. 48 + n == 10) (λ n. false) 10 d refl h
+
 -- names
+pub special_no_end : (c : ℕ) → c < 256 → is_special c ≡ true → (c == 10) ≡ false
+special_no_end c h = not_second (is_special c) (c == 10) (agree_below_at (λ n. is_special n && n == 10) (λ n. false) 256 c refl h)
+
 pub special_digit : (c : ℕ) → c < 256 → is_special c ≡ true → is_digit c ≡ false
 special_digit c h = not_second (is_special c) (is_digit c) (agree_below_at (λ n. is_special n && is_digit n) (λ n. false) 256 c refl h)
+
+-- an octet that is written as it is, is none with a meaning of its own and none that isn't printed
+pub label_plain : (d c : ℕ) → c < 256 → (is_special d || is_unprinted d) ≡ true → is_special c ≡ false → is_unprinted c ≡ false → (c == d) ≡ false
+label_plain d c h m e f = ne_eqb c d (λ same. true≢false (sym m ∙ (sym (ap (λ (x : ℕ). is_special x || is_unprinted x) same) ∙ (ap (λ (b : Bool). b || is_unprinted c) e ∙ f))))
 
 pub label_no_slash : (c : ℕ) → c < 256 → is_special c ≡ false → is_unprinted c ≡ false → (c == 92) ≡ false
 label_no_slash c h e f = not-true (c == 92) (third (is_special c) (is_unprinted c) (not (c == 92))
@@ -67,6 +77,13 @@ label_bare c h e f = third (is_special c) (is_unprinted c) (is_bare c)
     (agree_below_at (λ n. is_special n || (is_unprinted n || is_bare n)) (λ n. true) 256 c refl h) e f
 
 -- strings
+pub mark_no_end : (c : ℕ) → c < 256 → is_mark c ≡ true → (c == 10) ≡ false
+mark_no_end c h = not_second (is_mark c) (c == 10) (agree_below_at (λ n. is_mark n && n == 10) (λ n. false) 256 c refl h)
+
+pub string_no_end : (c : ℕ) → c < 256 → is_mark c ≡ false → is_hidden c ≡ false → (c == 10) ≡ false
+string_no_end c h e f = not-true (c == 10) (third (is_mark c) (is_hidden c) (not (c == 10))
+    (agree_below_at (λ n. is_mark n || (is_hidden n || not (n == 10))) (λ n. true) 256 c refl h) e f)
+
 pub mark_digit : (c : ℕ) → c < 256 → is_mark c ≡ true → is_digit c ≡ false
 mark_digit c h = not_second (is_mark c) (is_digit c) (agree_below_at (λ n. is_mark n && is_digit n) (λ n. false) 256 c refl h)
 

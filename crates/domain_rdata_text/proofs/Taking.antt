@@ -15,14 +15,15 @@ use Rattle.domain_rdata_text.specs.Base64.{base64_text, base64_in_words, read_ba
 use Rattle.domain_rdata_text.specs.Bitmaps.{bitmaps_of}
 use Rattle.domain_rdata_text.specs.Hex.{hex_text, counted_text, read_counted, octets_or_fault, hex_words, hex_in_words}
 use Rattle.domain_rdata_text.specs.Laws.{AreOctets}
-use Rattle.domain_rdata_text.specs.Names.{label_text, name_text, read_name}
+use Rattle.domain_rdata_text.specs.Names.{label_text, name_text}
 use Rattle.domain_rdata_text.specs.Numbers.{read_number}
 use Rattle.domain_rdata_text.specs.Rtypes.{type_text, read_type, type_or_fault, types_words}
 use Rattle.domain_rdata_text.specs.Strings.{string_text, only_short, read_string, read_quoted}
-use Rattle.domain_rdata_text.specs.Texts.{val_words, has_text, takes_all, read_tag, so_far, with_octets, with_bitmaps, one, all, string_or_fault, strings_words, take_field}
+use Rattle.domain_rdata_text.specs.Texts.{val_words, has_text, takes_all, read_tag, so_far, with_octets, with_more, with_bitmaps, one, all, string_or_fault, strings_words, take_field}
 use Rattle.domain_rdata_text.specs.Times.{read_time}
+use Rattle.domain_rdata_text.specs.Ttls.{or_ttl, read_ttl}
 use Rattle.domain_rdata_text.specs.Values.{Val, form_of_val, counted, val_octets, is_tag}
-use Rattle.domain_rdata_text.specs.Values.Val.{number8, number16, number32, time, rtype, ipv4, ipv6, name, string, optional_string, strings, tag, quoted, base16, base64, counted16, counted32, types, optional_types, generic}
+use Rattle.domain_rdata_text.specs.Values.Val.{number8, number16, number32, ttl, time, rtype, ipv4, ipv6, name, string, optional_string, strings, tag, quoted, base16, base64, counted16, counted32, types, optional_types, generic}
 use Rattle.domain_rdata_text.specs.Words.{WordAt, word}
 use Rattle.domain_rdata_text.proofs.Colons.{ipv6_back, bare_ipv6, ipv6_some}
 use Rattle.domain_rdata_text.proofs.Digits.{hex_back, bare_hex}
@@ -41,7 +42,7 @@ use Rattle.domain_rdata_text.proofs.Windows.{AreTypes, no_bitmaps}
 label_some : (l rest : List ℕ) → 0 < length (label_text l ++ rest)
 label_some l rest = grind (arith, common_steps)
 
-name_some : (ls : List (List ℕ)) → 0 < length (name_text ls)
+pub name_some : (ls : List (List ℕ)) → 0 < length (name_text ls)
 name_some [] = omega arith
 name_some (l ∷ ls) = label_some l (flat_map label_text ls)
 
@@ -52,7 +53,7 @@ ipv4_some : (os : List ℕ) → length os ≡ 4 → AreOctets os → 0 < length 
 ipv4_some [] h b = absurd (omega (arith, h))
 ipv4_some (n ∷ ns) h b = longer (decimal n) (dotted ns) (decimal_nonempty n (omega (arith, b.0)))
 
-number_word : (n : ℕ) → n < 2 ^ 64 → IsWord (decimal n)
+pub number_word : (n : ℕ) → n < 2 ^ 64 → IsWord (decimal n)
 number_word n h = (bare_number n h, decimal_nonempty n h)
 
 string_word : (s : List ℕ) → AreOctets s → IsWord (string_text s)
@@ -90,6 +91,7 @@ pub are_words : (v : Val) → IsVal v → AllByRecursion IsWord (val_words v)
 are_words (number8 n) h = (number_word n (omega (arith, h)), tt)
 are_words (number16 n) h = (number_word n (omega (arith, h)), tt)
 are_words (number32 n) h = (number_word n (omega (arith, h)), tt)
+are_words (ttl n) h = (number_word n (omega (arith, h)), tt)
 are_words (time n) h = (number_word n (omega (arith, h)), tt)
 are_words (rtype n) h = ((bare_type n h, type_some n), tt)
 are_words (ipv4 os) h = ((bare_ipv4 os h.1, ipv4_some os h.0 h.1), tt)
@@ -158,81 +160,88 @@ hex_all_back n (c ∷ cs) b = hex_taken n c cs b []
 no_others : (us vs : List (List ℕ)) → vs ≡ [] → us ++ vs ≡ us
 no_others us vs none = ap (λ (x : List (List ℕ)). us ++ x) none ∙ append-nil us
 
-pub taken_back : (n len : ℕ) (v : Val) (us : List (List ℕ)) → IsVal v → has_text v ≡ true → (takes_all v ≡ true → us ≡ []) → (os : List ℕ)
-    → take_field len (form_of_val v) os (placed n (val_words v ++ us)) ≡ Ok (so_far (os ++ val_octets v) (placed n us))
-taken_back n len (number8 x) us h t l os =
+-- digits alone are that number
+ttl_back : (n : ℕ) → n < 4294967296 → read_ttl (decimal n) ≡ Some n
+ttl_back n h = ap (λ (x : Option ℕ). or_ttl x (decimal n)) (number_back 4294967296 n h (omega (arith, h)))
+
+pub taken_back : (origin : Option (List ℕ)) (n len : ℕ) (v : Val) (us : List (List ℕ)) → IsVal v → has_text v ≡ true → (takes_all v ≡ true → us ≡ []) → (os : List ℕ)
+    → take_field origin len (form_of_val v) os (placed n (val_words v ++ us)) ≡ Ok (so_far (os ++ val_octets v) (placed n us))
+taken_back origin n len (number8 x) us h t l os =
     one_back number8 reasons.Number os (word (ends_before n us - length (decimal x)) (decimal x)) (placed n us) (read_number 256 (decimal x)) x (number_back 256 x h (omega (arith, h)))
-taken_back n len (number16 x) us h t l os =
+taken_back origin n len (number16 x) us h t l os =
     one_back number16 reasons.Number os (word (ends_before n us - length (decimal x)) (decimal x)) (placed n us) (read_number 65536 (decimal x)) x (number_back 65536 x h (omega (arith, h)))
-taken_back n len (number32 x) us h t l os =
+taken_back origin n len (number32 x) us h t l os =
     one_back number32 reasons.Number os (word (ends_before n us - length (decimal x)) (decimal x)) (placed n us) (read_number 4294967296 (decimal x)) x (number_back 4294967296 x h (omega (arith, h)))
-taken_back n len (time x) us h t l os =
+taken_back origin n len (ttl x) us h t l os =
+    one_back ttl reasons.Number os (word (ends_before n us - length (decimal x)) (decimal x)) (placed n us) (read_ttl (decimal x)) x (ttl_back x h)
+taken_back origin n len (time x) us h t l os =
     one_back time reasons.Time os (word (ends_before n us - length (decimal x)) (decimal x)) (placed n us) (read_time (decimal x)) x (time_back x h)
-taken_back n len (rtype x) us h t l os =
+taken_back origin n len (rtype x) us h t l os =
     one_back rtype reasons.Rtype os (word (ends_before n us - length (type_text x)) (type_text x)) (placed n us) (read_type (type_text x)) x (type_back x h)
-taken_back n len (ipv4 o) us h t l os =
+taken_back origin n len (ipv4 o) us h t l os =
     one_back ipv4 reasons.Ipv4 os (word (ends_before n us - length (ipv4_text o)) (ipv4_text o)) (placed n us) (read_ipv4 (ipv4_text o)) o (ipv4_back o h.0 h.1)
-taken_back n len (ipv6 o) us h t l os =
+taken_back origin n len (ipv6 o) us h t l os =
     one_back ipv6 reasons.Ipv6 os (word (ends_before n us - length (ipv6_text o)) (ipv6_text o)) (placed n us) (read_ipv6 (ipv6_text o)) o (ipv6_back o h.0 h.1)
-taken_back n len (name ls) us h t l os =
-    one_back name reasons.Name os (word (ends_before n us - length (name_text ls)) (name_text ls)) (placed n us) (read_name (name_text ls)) ls (name_back ls h.0 h.1)
-taken_back n len (string s) us h t l os =
+taken_back origin n len (name ls) us h t l os =
+    let w = word (ends_before n us - length (name_text ls)) (name_text ls) in
+    ap (λ (x : Option (List ℕ)). one reasons.Name w (placed n us) (with_more os x)) (name_back origin ls h.0 h.1)
+taken_back origin n len (string s) us h t l os =
     one_back string reasons.CharString os (word (ends_before n us - length (string_text s)) (string_text s)) (placed n us) (read_string (string_text s)) s (string_back s h.0 h.1)
-taken_back n len (optional_string None) us h t l os =
+taken_back origin n len (optional_string None) us h t l os =
     let none = l refl in
-    ap (λ (y : List (List ℕ)). take_field len (form_of_val (optional_string None)) os (placed n y)) none
+    ap (λ (y : List (List ℕ)). take_field origin len (form_of_val (optional_string None)) os (placed n y)) none
     ∙ (ap (λ (y : List ℕ). Ok (so_far y [])) (sym (append-nil os))
     ∙ ap (λ (y : List (List ℕ)). Ok (so_far (os ++ []) (placed n y))) (sym none))
-taken_back n len (optional_string (Some s)) us h t l os =
+taken_back origin n len (optional_string (Some s)) us h t l os =
     one_back string reasons.CharString os (word (ends_before n us - length (string_text s)) (string_text s)) (placed n us) (read_string (string_text s)) s (string_back s h.0 h.1)
-taken_back n len (strings []) us h t l os = absurd (false≢true t)
-taken_back n len (strings (s ∷ ss)) us h t l os =
+taken_back origin n len (strings []) us h t l os = absurd (false≢true t)
+taken_back origin n len (strings (s ∷ ss)) us h t l os =
     let none = l refl in
     let same = no_others (map string_text (s ∷ ss)) us none in
-    ap (λ (x : List (List ℕ)). take_field len (form_of_val (strings (s ∷ ss))) os (placed n x)) same
+    ap (λ (x : List (List ℕ)). take_field origin len (form_of_val (strings (s ∷ ss))) os (placed n x)) same
     ∙ (ap (λ (x : Result (List ℕ) Fault). all x) (strings_back n (s ∷ ss) h os)
     ∙ ap (λ (x : List (List ℕ)). Ok (so_far (os ++ val_octets (strings (s ∷ ss))) (placed n x))) (sym none))
-taken_back n len (tag s) us h t l os =
+taken_back origin n len (tag s) us h t l os =
     one_back tag reasons.Tag os (word (ends_before n us - length s) s) (placed n us) (read_tag s) s (tag_back s h.0 h.2)
-taken_back n len (quoted s) us h t l os =
+taken_back origin n len (quoted s) us h t l os =
     one_back quoted reasons.QuotedText os (word (ends_before n us - length (string_text s)) (string_text s)) (placed n us) (read_quoted (string_text s)) s (quoted_back s h)
-taken_back n len (base16 []) us h t l os = absurd (false≢true t)
-taken_back n len (base16 (c ∷ cs)) us h t l os =
+taken_back origin n len (base16 []) us h t l os = absurd (false≢true t)
+taken_back origin n len (base16 (c ∷ cs)) us h t l os =
     let none = l refl in
     let same = no_others (hex_in_words (c ∷ cs)) us none in
-    ap (λ (x : List (List ℕ)). take_field len (form_of_val (base16 (c ∷ cs))) os (placed n x)) same
+    ap (λ (x : List (List ℕ)). take_field origin len (form_of_val (base16 (c ∷ cs))) os (placed n x)) same
     ∙ (ap (λ (x : Result (List ℕ) Fault). all x) (hex_taken n c cs h os)
     ∙ ap (λ (x : List (List ℕ)). Ok (so_far (os ++ c ∷ cs) (placed n x))) (sym none))
-taken_back n len (base64 []) us h t l os = absurd (false≢true t)
-taken_back n len (base64 (c ∷ cs)) us h t l os =
+taken_back origin n len (base64 []) us h t l os = absurd (false≢true t)
+taken_back origin n len (base64 (c ∷ cs)) us h t l os =
     let none = l refl in
     let text = base64_text (c ∷ cs) in
     let same = no_others (base64_in_words (c ∷ cs)) us none in
-    ap (λ (x : List (List ℕ)). take_field len (form_of_val (base64 (c ∷ cs))) os (placed n x)) same
+    ap (λ (x : List (List ℕ)). take_field origin len (form_of_val (base64 (c ∷ cs))) os (placed n x)) same
     ∙ (one_back base64 reasons.Base64 os (word (n - length text) text) [] (read_base64 (text ++ [])) (c ∷ cs) (base64_taken c cs h)
     ∙ ap (λ (x : List (List ℕ)). Ok (so_far (os ++ c ∷ cs) (placed n x))) (sym none))
-taken_back n len (counted16 s) us h t l os =
+taken_back origin n len (counted16 s) us h t l os =
     one_back counted16 reasons.CountedBase16 os (word (ends_before n us - length (counted_text s)) (counted_text s)) (placed n us) (read_counted (counted_text s)) s (counted16_back s h.0 h.1)
-taken_back n len (counted32 []) us h t l os = absurd (false≢true t)
-taken_back n len (counted32 (c ∷ cs)) us h t l os =
+taken_back origin n len (counted32 []) us h t l os = absurd (false≢true t)
+taken_back origin n len (counted32 (c ∷ cs)) us h t l os =
     let text = base32_text (c ∷ cs) in
     one_back counted32 reasons.CountedBase32 os (word (ends_before n us - length text) text) (placed n us) (read_base32 text) (c ∷ cs) (base32_back c cs h.0 h.1)
-taken_back n len (types []) us h t l os = absurd (false≢true t)
-taken_back n len (types (x ∷ ts)) us h t l os =
+taken_back origin n len (types []) us h t l os = absurd (false≢true t)
+taken_back origin n len (types (x ∷ ts)) us h t l os =
     let none = l refl in
     let same = no_others (map type_text (x ∷ ts)) us none in
-    ap (λ (y : List (List ℕ)). take_field len (form_of_val (types (x ∷ ts))) os (placed n y)) same
+    ap (λ (y : List (List ℕ)). take_field origin len (form_of_val (types (x ∷ ts))) os (placed n y)) same
     ∙ (types_taken n (x ∷ ts) h.0 os
     ∙ ap (λ (y : List (List ℕ)). Ok (so_far (os ++ bitmaps_of (x ∷ ts)) (placed n y))) (sym none))
-taken_back n len (optional_types []) us h t l os =
+taken_back origin n len (optional_types []) us h t l os =
     let none = l refl in
-    ap (λ (y : List (List ℕ)). take_field len (form_of_val (optional_types [])) os (placed n y)) none
+    ap (λ (y : List (List ℕ)). take_field origin len (form_of_val (optional_types [])) os (placed n y)) none
     ∙ (ap (λ (y : List ℕ). Ok (so_far y [])) (sym (append-nil os) ∙ ap (λ (y : List ℕ). os ++ y) (sym no_bitmaps))
     ∙ ap (λ (y : List (List ℕ)). Ok (so_far (os ++ bitmaps_of []) (placed n y))) (sym none))
-taken_back n len (optional_types (x ∷ ts)) us h t l os =
+taken_back origin n len (optional_types (x ∷ ts)) us h t l os =
     let none = l refl in
     let same = no_others (map type_text (x ∷ ts)) us none in
-    ap (λ (y : List (List ℕ)). take_field len (form_of_val (optional_types (x ∷ ts))) os (placed n y)) same
+    ap (λ (y : List (List ℕ)). take_field origin len (form_of_val (optional_types (x ∷ ts))) os (placed n y)) same
     ∙ (types_taken n (x ∷ ts) h.0 os
     ∙ ap (λ (y : List (List ℕ)). Ok (so_far (os ++ bitmaps_of (x ∷ ts)) (placed n y))) (sym none))
-taken_back n len (generic o) us h t l os = absurd (false≢true t)
+taken_back origin n len (generic o) us h t l os = absurd (false≢true t)

@@ -97,7 +97,7 @@ pub type_back : (n : ℕ) → n < 65536 → read_type (type_text n) ≡ Some n
 type_back n h = type_by (λ t. read_type t ≡ Some n) n (word_reads n) (type_reads (decimal n) ∙ number_back 65536 n h (omega (arith, h)))
 
 -- ---- it is a word, and no mark
-all_bare : (w : List ℕ) → list_all is_bare w ≡ true → Stays Bare w
+pub all_bare : (w : List ℕ) → list_all is_bare w ≡ true → Stays Bare w
 all_bare [] h = stays_nil Bare
 all_bare (c ∷ w) h =
     let p = and_parts (is_bare c) (list_all is_bare w) h in

@@ -12,7 +12,7 @@ text_form kinds.Number16 = forms.Number16
 text_form kinds.Number32 = forms.Number32
 text_form kinds.Number48 = forms.Generic
 text_form kinds.Number64 = forms.Generic
-text_form kinds.Ttl = forms.Number32
+text_form kinds.Ttl = forms.Ttl
 text_form kinds.Serial = forms.Number32
 text_form kinds.Time = forms.Time
 text_form kinds.Rtype = forms.Rtype
@@ -39,6 +39,7 @@ abbrev pub may_be_absent : TextForm → Bool
 may_be_absent forms.Number8 = false
 may_be_absent forms.Number16 = false
 may_be_absent forms.Number32 = false
+may_be_absent forms.Ttl = false
 may_be_absent forms.Time = false
 may_be_absent forms.Rtype = false
 may_be_absent forms.Ipv4 = false

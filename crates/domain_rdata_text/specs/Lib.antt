@@ -6,6 +6,7 @@ pub mod Strings
 pub mod Numbers
 pub mod Rtypes
 pub mod Times
+pub mod Ttls
 pub mod Addresses
 pub mod Hex
 pub mod Ipv6

@@ -1,6 +1,8 @@
--- Names as text of a zone (RFC 1035, 5.1), by their labels before the root.
-use Rattle.std.specs.Prelude.{ℕ, ◌+◌, ◌-◌, Bool, true, false, List, [], ◌∷◌, ◌++◌, length, Option, Some, None, ◌==◌, ◌||◌, ◌&&◌, nat_lt, nat_le, if◌then◌else◌}
+-- Names as text of a zone (RFC 1035, 5.1): shown by their labels before the root, and read as octets.
+use Rattle.std.specs.Prelude.{ℕ, ◌+◌, ◌-◌, Bool, true, false, List, [], ◌∷◌, ◌++◌, length, Option, Some, None, option_map, ◌==◌, ◌||◌, ◌&&◌, nat_lt, nat_le, if◌then◌else◌}
 use Rattle.std.specs.List.{flat_map}
+use denote.Bor.{Bor}
+use Rattle.domain_label.specs.Wire.{wire, Root}
 use Rattle.domain_rdata_text.specs.declared.symbols.Symbol.{Symbol}
 use Rattle.domain_rdata_text.specs.declared.symbols.Symbol.TheVariants.{Plain, Escaped}
 use Rattle.domain_rdata_text.specs.Symbols.{symbols, octet_text}
@@ -36,45 +38,73 @@ are_labels_in room (l ∷ ls) =
 abbrev pub is_name : List (List ℕ) → Bool
 is_name ls = are_labels_in 254 ls
 
--- labels, where none is open
-abbrev pub none_open : List (List ℕ) → List ℕ → Option (List (List ℕ))
-none_open ls [] = Some ls
-none_open ls (c ∷ l) = None
+-- ---- reading
 
--- The labels of symbols, after labels and octets of an open one. A plain dot ends a label, and there is one at the
--- end; there is no plain quote.
-abbrev pub labels_from : List (List ℕ) → List ℕ → List Symbol → Option (List (List ℕ))
-labels_from ls l [] = none_open ls l
-labels_from ls l (Escaped c ∷ ss) = labels_from ls (l ++ c ∷ []) ss
-labels_from ls l (Plain c ∷ ss) =
-    if c == 46 then labels_from (ls ++ l ∷ []) [] ss else (if c == 34 then None else labels_from ls (l ++ c ∷ []) ss)
+-- the origin of a call, if it has one: the octets of a name in wire format
+abbrev pub origin_octets : Option (Bor (List ℕ)) → Option (List ℕ)
+origin_octets origin = option_map (λ octets. octets.now) origin
 
--- whether the symbol is a dot without a backslash
-abbrev pub is_dot : Symbol → Bool
-is_dot (Plain c) = c == 46
-is_dot (Escaped c) = false
+-- the labels with a dot after each, and the octets of a last one without a dot
+pub record NameParts : Type 0 where
+  pub labels : List (List ℕ)
+  pub last : List ℕ
 
--- whether the symbols are a dot alone
-abbrev pub is_root : List Symbol → Bool
-is_root [] = false
-is_root (s ∷ []) = is_dot s
-is_root (s ∷ t ∷ ss) = false
+abbrev pub name_parts : List (List ℕ) → List ℕ → NameParts
+name_parts ls l = record { labels = ls; last = l }
 
--- labels, if they are of a name and not only its root
-abbrev pub only_name : Option (List (List ℕ)) → Option (List (List ℕ))
-only_name None = None
-only_name (Some []) = None
-only_name (Some (l ∷ ls)) = if is_name (l ∷ ls) then Some (l ∷ ls) else None
+-- The parts of the name that symbols are, after labels and octets of the next one. A plain dot ends a label, and there
+-- is no plain quote.
+abbrev pub parts_from : List (List ℕ) → List ℕ → List Symbol → Option NameParts
+parts_from ls l [] = Some (name_parts ls l)
+parts_from ls l (Escaped c ∷ ss) = parts_from ls (l ++ c ∷ []) ss
+parts_from ls l (Plain c ∷ ss) =
+    if c == 46 then parts_from (ls ++ l ∷ []) [] ss else (if c == 34 then None else parts_from ls (l ++ c ∷ []) ss)
 
--- the labels of symbols of an absolute name; a dot alone is the root
-abbrev pub name_of_symbols : List Symbol → Option (List (List ℕ))
-name_of_symbols ss = if is_root ss then Some [] else only_name (labels_from [] [] ss)
+-- whether the symbol is the octet c without a backslash
+abbrev pub is_plain : ℕ → Symbol → Bool
+is_plain c (Plain d) = d == c
+is_plain c (Escaped d) = false
+
+-- whether the symbols are that octet alone
+abbrev pub is_alone : ℕ → List Symbol → Bool
+is_alone c [] = false
+is_alone c (s ∷ []) = is_plain c s
+is_alone c (s ∷ t ∷ ss) = false
+
+-- the octets of labels and of the end of a name, in at most 255 octets (RFC 1035, 2.3.4)
+abbrev pub with_end : List (List ℕ) → List ℕ → Option (List ℕ)
+with_end ls end = if are_labels_in (255 - length end) ls then Some (wire ls ++ end) else None
+
+-- an absolute name: one label or more, and the root
+abbrev pub absolute : List (List ℕ) → Option (List ℕ)
+absolute [] = None
+absolute (l ∷ ls) = with_end (l ∷ ls) (wire Root)
+
+-- a relative name goes on with the origin
+abbrev pub relative : Option (List ℕ) → List (List ℕ) → Option (List ℕ)
+relative None ls = None
+relative (Some origin) ls = with_end ls origin
+
+-- an absolute name ends in a dot, and any other is relative
+abbrev pub whole_name : Option (List ℕ) → List (List ℕ) → List ℕ → Option (List ℕ)
+whole_name origin ls [] = absolute ls
+whole_name origin ls (c ∷ l) = relative origin (ls ++ (c ∷ l) ∷ [])
+
+abbrev pub completed : Option (List ℕ) → Option NameParts → Option (List ℕ)
+completed origin None = None
+completed origin (Some p) = whole_name origin p.labels p.last
+
+-- the octets of the name that symbols are: `@` alone is the origin, and a dot alone is the root
+abbrev pub name_of_symbols : Option (List ℕ) → List Symbol → Option (List ℕ)
+name_of_symbols origin ss =
+    if is_alone 64 ss then origin
+    else (if is_alone 46 ss then Some (wire Root) else completed origin (parts_from [] [] ss))
 
 -- the same, if there are symbols
-abbrev pub name_of_some : Option (List Symbol) → Option (List (List ℕ))
-name_of_some None = None
-name_of_some (Some ss) = name_of_symbols ss
+abbrev pub name_of_some : Option (List ℕ) → Option (List Symbol) → Option (List ℕ)
+name_of_some origin None = None
+name_of_some origin (Some ss) = name_of_symbols origin ss
 
--- the absolute name that a word is
-abbrev pub read_name : List ℕ → Option (List (List ℕ))
-read_name word = name_of_some (symbols word)
+-- the octets of the name that a word is, with an origin or without (RFC 1035, 5.1)
+abbrev pub read_name : Option (List ℕ) → List ℕ → Option (List ℕ)
+read_name origin word = name_of_some origin (symbols word)

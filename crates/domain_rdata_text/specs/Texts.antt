@@ -23,8 +23,9 @@ use Rattle.domain_rdata_text.specs.Outcome.{fault}
 use Rattle.domain_rdata_text.specs.Rtypes.{type_text, read_type, types_words}
 use Rattle.domain_rdata_text.specs.Strings.{string_text, read_string, read_quoted}
 use Rattle.domain_rdata_text.specs.Times.{read_time}
+use Rattle.domain_rdata_text.specs.Ttls.{read_ttl}
 use Rattle.domain_rdata_text.specs.Values.{Val, val_octets, vals_octets, is_tag, ValuesAt}
-use Rattle.domain_rdata_text.specs.Values.Val.{number8, number16, number32, time, rtype, ipv4, ipv6, name, string, optional_string, strings, tag, quoted, base16, base64, counted16, counted32, types, optional_types, generic}
+use Rattle.domain_rdata_text.specs.Values.Val.{number8, number16, number32, ttl, time, rtype, ipv4, ipv6, name, string, optional_string, strings, tag, quoted, base16, base64, counted16, counted32, types, optional_types, generic}
 use Rattle.domain_rdata_text.specs.Words.{WordAt, split, joined}
 
 -- the words of a string, where there is one
@@ -37,6 +38,7 @@ abbrev pub val_words : Val → List (List ℕ)
 val_words (number8 n) = decimal n ∷ []
 val_words (number16 n) = decimal n ∷ []
 val_words (number32 n) = decimal n ∷ []
+val_words (ttl n) = decimal n ∷ []
 val_words (time n) = decimal n ∷ []
 val_words (rtype n) = type_text n ∷ []
 val_words (ipv4 os) = ipv4_text os ∷ []
@@ -69,6 +71,7 @@ abbrev pub has_text : Val → Bool
 has_text (number8 n) = true
 has_text (number16 n) = true
 has_text (number32 n) = true
+has_text (ttl n) = true
 has_text (time n) = true
 has_text (rtype n) = true
 has_text (ipv4 os) = true
@@ -92,6 +95,7 @@ abbrev pub takes_all : Val → Bool
 takes_all (number8 n) = false
 takes_all (number16 n) = false
 takes_all (number32 n) = false
+takes_all (ttl n) = false
 takes_all (time n) = false
 takes_all (rtype n) = false
 takes_all (ipv4 os) = false
@@ -142,6 +146,11 @@ abbrev pub with_octets : {A : Type 0} → (A → Val) → List ℕ → Option A 
 with_octets f os None = None
 with_octets f os (Some a) = Some (os ++ val_octets (f a))
 
+-- octets, and more that were read, where something was
+abbrev pub with_more : List ℕ → Option (List ℕ) → Option (List ℕ)
+with_more os None = None
+with_more os (Some more) = Some (os ++ more)
+
 -- the octets that were read of the word w, where ws are the words after it
 abbrev pub one : Reason → WordAt → List WordAt → Option (List ℕ) → Result SoFar Fault
 one why w ws None = Err (fault w.begin why)
@@ -168,33 +177,35 @@ strings_words (Err why) ws = Err why
 strings_words (Ok os) [] = Ok os
 strings_words (Ok os) (w ∷ ws) = strings_words (string_or_fault w.begin (with_octets string os (read_string w.octets))) ws
 
--- after octets those of a field that is written so, where w is the next word and ws are those after it
-abbrev pub take_words : TextForm → List ℕ → WordAt → List WordAt → Result SoFar Fault
-take_words forms.Number8 os w ws = one reasons.Number w ws (with_octets number8 os (read_number 256 w.octets))
-take_words forms.Number16 os w ws = one reasons.Number w ws (with_octets number16 os (read_number 65536 w.octets))
-take_words forms.Number32 os w ws = one reasons.Number w ws (with_octets number32 os (read_number 4294967296 w.octets))
-take_words forms.Time os w ws = one reasons.Time w ws (with_octets time os (read_time w.octets))
-take_words forms.Rtype os w ws = one reasons.Rtype w ws (with_octets rtype os (read_type w.octets))
-take_words forms.Ipv4 os w ws = one reasons.Ipv4 w ws (with_octets ipv4 os (read_ipv4 w.octets))
-take_words forms.Ipv6 os w ws = one reasons.Ipv6 w ws (with_octets ipv6 os (read_ipv6 w.octets))
-take_words forms.Name os w ws = one reasons.Name w ws (with_octets name os (read_name w.octets))
-take_words forms.CharString os w ws = one reasons.CharString w ws (with_octets string os (read_string w.octets))
-take_words forms.OptionalString os w ws = one reasons.CharString w ws (with_octets string os (read_string w.octets))
-take_words forms.CharStrings os w ws = all (strings_words (Ok os) (w ∷ ws))
-take_words forms.Tag os w ws = one reasons.Tag w ws (with_octets tag os (read_tag w.octets))
-take_words forms.QuotedText os w ws = one reasons.QuotedText w ws (with_octets quoted os (read_quoted w.octets))
-take_words forms.Base16 os w ws = all (hex_words (Ok os) (w ∷ ws))
-take_words forms.Base64 os w ws = one reasons.Base64 w [] (with_octets base64 os (read_base64 (together (w ∷ ws))))
-take_words forms.CountedBase16 os w ws = one reasons.CountedBase16 w ws (with_octets counted16 os (read_counted w.octets))
-take_words forms.CountedBase32 os w ws = one reasons.CountedBase32 w ws (with_octets counted32 os (read_base32 w.octets))
-take_words forms.Types os w ws = all (with_bitmaps os (types_words (Ok []) (w ∷ ws)))
-take_words forms.OptionalTypes os w ws = all (with_bitmaps os (types_words (Ok []) (w ∷ ws)))
-take_words forms.Generic os w ws = Err (fault w.begin reasons.OnlyGeneric)
+-- After octets those of a field that is written so, where w is the next word and ws are those after it. Names go on
+-- with the origin o, if there is one.
+abbrev pub take_words : Option (List ℕ) → TextForm → List ℕ → WordAt → List WordAt → Result SoFar Fault
+take_words o forms.Number8 os w ws = one reasons.Number w ws (with_octets number8 os (read_number 256 w.octets))
+take_words o forms.Number16 os w ws = one reasons.Number w ws (with_octets number16 os (read_number 65536 w.octets))
+take_words o forms.Number32 os w ws = one reasons.Number w ws (with_octets number32 os (read_number 4294967296 w.octets))
+take_words o forms.Ttl os w ws = one reasons.Number w ws (with_octets ttl os (read_ttl w.octets))
+take_words o forms.Time os w ws = one reasons.Time w ws (with_octets time os (read_time w.octets))
+take_words o forms.Rtype os w ws = one reasons.Rtype w ws (with_octets rtype os (read_type w.octets))
+take_words o forms.Ipv4 os w ws = one reasons.Ipv4 w ws (with_octets ipv4 os (read_ipv4 w.octets))
+take_words o forms.Ipv6 os w ws = one reasons.Ipv6 w ws (with_octets ipv6 os (read_ipv6 w.octets))
+take_words o forms.Name os w ws = one reasons.Name w ws (with_more os (read_name o w.octets))
+take_words o forms.CharString os w ws = one reasons.CharString w ws (with_octets string os (read_string w.octets))
+take_words o forms.OptionalString os w ws = one reasons.CharString w ws (with_octets string os (read_string w.octets))
+take_words o forms.CharStrings os w ws = all (strings_words (Ok os) (w ∷ ws))
+take_words o forms.Tag os w ws = one reasons.Tag w ws (with_octets tag os (read_tag w.octets))
+take_words o forms.QuotedText os w ws = one reasons.QuotedText w ws (with_octets quoted os (read_quoted w.octets))
+take_words o forms.Base16 os w ws = all (hex_words (Ok os) (w ∷ ws))
+take_words o forms.Base64 os w ws = one reasons.Base64 w [] (with_octets base64 os (read_base64 (together (w ∷ ws))))
+take_words o forms.CountedBase16 os w ws = one reasons.CountedBase16 w ws (with_octets counted16 os (read_counted w.octets))
+take_words o forms.CountedBase32 os w ws = one reasons.CountedBase32 w ws (with_octets counted32 os (read_base32 w.octets))
+take_words o forms.Types os w ws = all (with_bitmaps os (types_words (Ok []) (w ∷ ws)))
+take_words o forms.OptionalTypes os w ws = all (with_bitmaps os (types_words (Ok []) (w ∷ ws)))
+take_words o forms.Generic os w ws = Err (fault w.begin reasons.OnlyGeneric)
 
 -- the same, in a text of n octets, where a word may be missing, as it may of a field that is absent
-abbrev pub take_field : ℕ → TextForm → List ℕ → List WordAt → Result SoFar Fault
-take_field n form os [] = if may_be_absent form then Ok (so_far os []) else Err (fault n reasons.MissingWord)
-take_field n form os (w ∷ ws) = take_words form os w ws
+abbrev pub take_field : Option (List ℕ) → ℕ → TextForm → List ℕ → List WordAt → Result SoFar Fault
+take_field o n form os [] = if may_be_absent form then Ok (so_far os []) else Err (fault n reasons.MissingWord)
+take_field o n form os (w ∷ ws) = take_words o form os w ws
 
 -- the octets that were read, where no word remains
 abbrev pub only_fields : List ℕ → List WordAt → Result (List ℕ) Fault
@@ -202,10 +213,10 @@ only_fields os [] = Ok os
 only_fields os (w ∷ ws) = Err (fault w.begin reasons.ExtraWord)
 
 -- the octets of fields of these kinds, in a text of n octets, after what was read
-abbrev pub read_fields : ℕ → Result SoFar Fault → List FieldKind → Result (List ℕ) Fault
-read_fields n (Err why) ks = Err why
-read_fields n (Ok s) [] = only_fields s.octets s.words
-read_fields n (Ok s) (k ∷ ks) = read_fields n (take_field n (text_form k) s.octets s.words) ks
+abbrev pub read_fields : Option (List ℕ) → ℕ → Result SoFar Fault → List FieldKind → Result (List ℕ) Fault
+read_fields o n (Err why) ks = Err why
+read_fields o n (Ok s) [] = only_fields s.octets s.words
+read_fields o n (Ok s) (k ∷ ks) = read_fields o n (take_field o n (text_form k) s.octets s.words) ks
 
 -- the octets of fields, of which record data has at most 65,535 (RFC 1035, 3.2.1)
 abbrev pub only_data : ℕ → Result (List ℕ) Fault → Result (List ℕ) Fault
@@ -213,8 +224,8 @@ only_data n (Err why) = Err why
 only_data n (Ok os) = if nat_le (length os) 65535 then Ok os else Err (fault n reasons.LongData)
 
 -- the octets of fields of these kinds that words say
-abbrev pub fields_octets : List FieldKind → ℕ → List WordAt → Result (List ℕ) Fault
-fields_octets ks n ws = only_data n (read_fields n (Ok (so_far [] ws)) ks)
+abbrev pub fields_octets : Option (List ℕ) → List FieldKind → ℕ → List WordAt → Result (List ℕ) Fault
+fields_octets o ks n ws = only_data n (read_fields o n (Ok (so_far [] ws)) ks)
 
 -- whether the first word is the mark, and its offset
 abbrev pub starts_mark : List WordAt → Bool
@@ -226,17 +237,21 @@ mark_offset [] = 0
 mark_offset (w ∷ ws) = w.begin
 
 -- the octets of data with fields of these kinds that words say: after a mark any octets
-abbrev pub words_octets : List FieldKind → ℕ → List WordAt → Result (List ℕ) Fault
-words_octets ks n ws = if starts_mark ws then read_generic n ws else fields_octets ks n ws
+abbrev pub words_octets : Option (List ℕ) → List FieldKind → ℕ → List WordAt → Result (List ℕ) Fault
+words_octets o ks n ws = if starts_mark ws then read_generic n ws else fields_octets o ks n ws
 
 -- the same, where there are words
-abbrev pub split_octets : List FieldKind → ℕ → Result (List WordAt) Fault → Result (List ℕ) Fault
-split_octets ks n (Err why) = Err why
-split_octets ks n (Ok ws) = words_octets ks n ws
+abbrev pub split_octets : Option (List ℕ) → List FieldKind → ℕ → Result (List WordAt) Fault → Result (List ℕ) Fault
+split_octets o ks n (Err why) = Err why
+split_octets o ks n (Ok ws) = words_octets o ks n ws
 
--- the octets of data with fields of these kinds that a text says
+-- the octets of data with fields of these kinds that a text says, with an origin or without
+abbrev pub text_octets_with : Option (List ℕ) → List FieldKind → List ℕ → Result (List ℕ) Fault
+text_octets_with o ks text = split_octets o ks (length text) (split text)
+
+-- the same without an origin: each name ends in a dot
 abbrev pub text_octets : List FieldKind → List ℕ → Result (List ℕ) Fault
-text_octets ks text = split_octets ks (length text) (split text)
+text_octets ks text = text_octets_with None ks text
 
 -- whether the first of words is the mark, and its offset, where there are words
 abbrev pub split_starts_mark : Result (List WordAt) Fault → Bool
@@ -267,9 +282,14 @@ IsGenericFault ks offset said f =
     (said ≡ Err f)
     ⊎ ((os : List ℕ) × (said ≡ Ok os) × (f ≡ fault offset reasons.NotData) × IsNotPlain ks os)
 
--- The text says no octets, and this is the fault; or it says octets after a mark that aren't such data.
-abbrev pub IsReadFault : List FieldKind → List ℕ → Fault → Type 0
-IsReadFault ks text f =
-    (text_octets ks text ≡ Err f)
-    ⊎ (IsGenericText text × ((os : List ℕ) × (text_octets ks text ≡ Ok os)
+-- With an origin or without, the text says no octets, and this is the fault; or it says octets after a mark that
+-- aren't such data.
+abbrev pub IsReadFaultWith : Option (List ℕ) → List FieldKind → List ℕ → Fault → Type 0
+IsReadFaultWith o ks text f =
+    (text_octets_with o ks text ≡ Err f)
+    ⊎ (IsGenericText text × ((os : List ℕ) × (text_octets_with o ks text ≡ Ok os)
     × (f ≡ fault (split_mark_offset (split text)) reasons.NotData) × IsNotPlain ks os))
+
+-- the same without an origin
+abbrev pub IsReadFault : List FieldKind → List ℕ → Fault → Type 0
+IsReadFault ks text f = IsReadFaultWith None ks text f

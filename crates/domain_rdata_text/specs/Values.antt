@@ -19,13 +19,14 @@ use Rattle.domain_rdata_text.specs.Bitmaps.{bitmaps_of, types_of_bitmaps}
 use Rattle.domain_rdata_text.specs.Forms.{text_form}
 use Rattle.domain_rdata_text.specs.Words.{lists}
 
--- What a field holds: a number, a time, one type or several, the octets of an address, or a name by its labels before
--- the root. It may also be the octets of a string, of several, of a tag, or of what is between quotes. Octets without
--- such a meaning are all of the field.
+-- What a field holds: a number, a span of time, a time, one type or several, the octets of an address, or a name by
+-- its labels before the root. It may also be the octets of a string, of several, of a tag, or of what is between
+-- quotes. Octets without such a meaning are all of the field.
 pub data Val : Type 0 where
   number8 : ℕ → Val
   number16 : ℕ → Val
   number32 : ℕ → Val
+  ttl : ℕ → Val
   time : ℕ → Val
   rtype : ℕ → Val
   ipv4 : List ℕ → Val
@@ -49,6 +50,7 @@ abbrev pub val_of : Value → Val
 val_of (held.Number8 n) = number8 n
 val_of (held.Number16 n) = number16 n
 val_of (held.Number32 n) = number32 n
+val_of (held.Ttl n) = ttl n
 val_of (held.Time n) = time n
 val_of (held.Rtype n) = rtype n
 val_of (held.Ipv4 os) = ipv4 os.items
@@ -76,6 +78,7 @@ abbrev pub form_of_val : Val → TextForm
 form_of_val (number8 n) = forms.Number8
 form_of_val (number16 n) = forms.Number16
 form_of_val (number32 n) = forms.Number32
+form_of_val (ttl n) = forms.Ttl
 form_of_val (time n) = forms.Time
 form_of_val (rtype n) = forms.Rtype
 form_of_val (ipv4 os) = forms.Ipv4
@@ -108,6 +111,7 @@ abbrev pub val_octets : Val → List ℕ
 val_octets (number8 n) = n ∷ []
 val_octets (number16 n) = (n / 256) ∷ (n % 256) ∷ []
 val_octets (number32 n) = (n / 16777216) ∷ (n / 65536 % 256) ∷ (n / 256 % 256) ∷ (n % 256) ∷ []
+val_octets (ttl n) = (n / 16777216) ∷ (n / 65536 % 256) ∷ (n / 256 % 256) ∷ (n % 256) ∷ []
 val_octets (time n) = (n / 16777216) ∷ (n / 65536 % 256) ∷ (n / 256 % 256) ∷ (n % 256) ∷ []
 val_octets (rtype n) = (n / 256) ∷ (n % 256) ∷ []
 val_octets (ipv4 os) = os
@@ -155,6 +159,14 @@ number32_in (a ∷ b ∷ []) = generic (a ∷ b ∷ [])
 number32_in (a ∷ b ∷ c ∷ []) = generic (a ∷ b ∷ c ∷ [])
 number32_in (a ∷ b ∷ c ∷ d ∷ []) = number32 (a * 16777216 + b * 65536 + c * 256 + d)
 number32_in (a ∷ b ∷ c ∷ d ∷ e ∷ os) = generic (a ∷ b ∷ c ∷ d ∷ e ∷ os)
+
+abbrev pub ttl_in : List ℕ → Val
+ttl_in [] = generic []
+ttl_in (a ∷ []) = generic (a ∷ [])
+ttl_in (a ∷ b ∷ []) = generic (a ∷ b ∷ [])
+ttl_in (a ∷ b ∷ c ∷ []) = generic (a ∷ b ∷ c ∷ [])
+ttl_in (a ∷ b ∷ c ∷ d ∷ []) = ttl (a * 16777216 + b * 65536 + c * 256 + d)
+ttl_in (a ∷ b ∷ c ∷ d ∷ e ∷ os) = generic (a ∷ b ∷ c ∷ d ∷ e ∷ os)
 
 abbrev pub time_in : List ℕ → Val
 time_in [] = generic []
@@ -230,6 +242,7 @@ abbrev pub val_in : TextForm → List ℕ → Val
 val_in forms.Number8 os = number8_in os
 val_in forms.Number16 os = number16_in os
 val_in forms.Number32 os = number32_in os
+val_in forms.Ttl os = ttl_in os
 val_in forms.Time os = time_in os
 val_in forms.Rtype os = rtype_in os
 val_in forms.Ipv4 os = ipv4_in os

@@ -15,7 +15,8 @@ pub enum Reason {
     MissingWord,
     /// A word follows the last field.
     ExtraWord,
-    /// The word isn't a number in decimal digits, or one of too many bits.
+    /// The word isn't a number in decimal digits, or one of too many bits. In a TTL, it isn't numbers with units
+    /// either.
     Number,
     /// The word isn't the mnemonic of a type, or `TYPE` and a number of 16 bits (RFC 3597, 5).
     Rtype,
@@ -26,7 +27,8 @@ pub enum Reason {
     Ipv4,
     /// The word isn't an IPv6 address (RFC 4291, 2.2).
     Ipv6,
-    /// The word isn't an absolute name of at most 255 octets with its final dot (RFC 1035, 2.3.4).
+    /// The word isn't a name of at most 255 octets (RFC 1035, 2.3.4), with those of the origin if it is relative.
+    /// Without an origin no relative name is read.
     Name,
     /// The word isn't a character string of at most 255 octets.
     CharString,

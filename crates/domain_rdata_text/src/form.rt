@@ -14,6 +14,8 @@ pub enum TextForm {
     Number16,
     /// A number of 32 bits in decimal digits.
     Number32,
+    /// Decimal digits of seconds, or numbers with units such as `1h30m`.
+    Ttl,
     /// The seconds since 1970 began in decimal digits (RFC 4034, 3.2).
     Time,
     /// The mnemonic of a type, or `TYPE` and its number (RFC 3597, 5).
@@ -60,7 +62,7 @@ pub fn text_form(kind: FieldKind) -> TextForm
         FieldKind::Number32 => TextForm::Number32,
         FieldKind::Number48 => TextForm::Generic,
         FieldKind::Number64 => TextForm::Generic,
-        FieldKind::Ttl => TextForm::Number32,
+        FieldKind::Ttl => TextForm::Ttl,
         FieldKind::Serial => TextForm::Number32,
         FieldKind::Time => TextForm::Time,
         FieldKind::Rtype => TextForm::Rtype,
@@ -93,6 +95,7 @@ pub(crate) fn may_be_absent(form: TextForm) -> bool
         TextForm::Number8 => false,
         TextForm::Number16 => false,
         TextForm::Number32 => false,
+        TextForm::Ttl => false,
         TextForm::Time => false,
         TextForm::Rtype => false,
         TextForm::Ipv4 => false,

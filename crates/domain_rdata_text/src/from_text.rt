@@ -1,5 +1,5 @@
 //! Record data that a text says (RFC 1035, 5.1; RFC 3597, 5).
-ghost use Rattle.std.specs.Prelude.{◌≡◌, ◌≤◌, ◌++◌, ◌∷◌, [], length, Ok, Err, Some, None, IfOk, OnOk, IfErr};
+ghost use Rattle.std.specs.Prelude.{◌≡◌, ◌<◌, ◌≤◌, ◌++◌, ◌∷◌, [], length, Ok, Err, Some, None, IfOk, OnOk, IfErr};
 ghost use Rattle.domain_descriptor.specs.Table.{known_fields};
 ghost use Rattle.domain_rdata_text.specs.Forms.{text_form, may_be_absent};
 ghost use Rattle.domain_rdata_text.specs.Outcome.{fault, IfFault, IfRefused, RefusesWith, AppendedTo};
@@ -13,15 +13,18 @@ ghost use Rattle.domain_rdata_text.specs.Numbers.{read_number};
 ghost use Rattle.domain_rdata_text.specs.Rtypes.{read_type, types_words};
 ghost use Rattle.domain_rdata_text.specs.Strings.{read_string, read_quoted};
 ghost use Rattle.domain_rdata_text.specs.Times.{read_time};
+ghost use Rattle.domain_rdata_text.specs.Ttls.{read_ttl};
 ghost use Rattle.domain_rdata_text.specs.Texts.{read_tag, with_octets, with_bitmaps, strings_words, take_words, take_field};
-ghost use Rattle.domain_rdata_text.specs.Texts.{so_far, read_fields, fields_octets, text_octets};
-ghost use Rattle.domain_rdata_text.specs.Texts.{starts_mark, mark_offset, IsGenericText, IsPlain, IsNotPlain, IsGenericFault, IsReadFault};
+ghost use Rattle.domain_rdata_text.specs.Names.{origin_octets};
+ghost use Rattle.domain_rdata_text.specs.Texts.{so_far, read_fields, fields_octets, text_octets, text_octets_with};
+ghost use Rattle.domain_rdata_text.specs.Texts.{starts_mark, mark_offset, IsGenericText, IsPlain, IsNotPlain};
+ghost use Rattle.domain_rdata_text.specs.Texts.{IsGenericFault, IsReadFault, IsReadFaultWith};
 ghost use Rattle.domain_rdata_text.specs.declared.error.Reason.TheVariants.{NotData};
-ghost use Rattle.domain_rdata_text.specs.Values.Val.{number8 as held_number8, number16 as held_number16, number32 as held_number32};
+ghost use Rattle.domain_rdata_text.specs.Values.Val.{number8 as held_number8, number16 as held_number16, number32 as held_number32, ttl as held_ttl};
 ghost use Rattle.domain_rdata_text.specs.Values.Val.{ipv4 as held_ipv4, ipv6 as held_ipv6, string as held_string, tag as held_tag, quoted as held_quoted};
 ghost use Rattle.domain_rdata_text.specs.Values.Val.{base64 as held_base64, counted16 as held_counted16, counted32 as held_counted32};
 ghost use Rattle.domain_rdata_text.specs.Values.Val.{rtype as held_rtype, time as held_time};
-ghost use Rattle.domain_rdata_text.specs.Values.{counted};
+ghost use Rattle.domain_rdata_text.specs.Values.{counted, val_octets};
 ghost use Rattle.domain_rdata_text.specs.Words.{word_of, words_of, lists};
 
 use crate::address::ipv4_of;
@@ -38,6 +41,7 @@ use crate::push::{push, push_all};
 use crate::rtype::{type_of, types_of_words};
 use crate::string::{quoted_of, string_of};
 use crate::time::time_of;
+use crate::ttl::seconds_of_word;
 use crate::value::{are_of_tag, plain_data};
 use crate::words::{Word, split_words};
 use domain_descriptor::{FieldKind, Rdata, known_fields};
@@ -80,6 +84,22 @@ fn push_rtype(refusal: Fault, word: &[u8], made: &mut Vec<u8>) -> Result<(), Rea
     Ok(())
 }
 
+/// Appends a number in four octets, the high one first (RFC 1035, 2.3.2).
+fn push_four(number: u64, made: &mut Vec<u8>) -> Result<(), ReadError>
+    requires { number < 4294967296 }
+    ensures ok { OnOk result
+        (AppendedTo made.old.items (val_octets (held_number32 number)) made.new.items) }
+    ensures err { IfErr result (λ e. e ≡ ReadError.Memory) }
+{
+    let octets = [
+        (number / 16777216) as u8,
+        (number / 65536 % 256) as u8,
+        (number / 256 % 256) as u8,
+        (number % 256) as u8,
+    ];
+    push_all(&octets, made)
+}
+
 /// Appends the number of 32 bits that a word is. It is refused with the fault that is passed.
 fn push_number32(refusal: Fault, word: &[u8], made: &mut Vec<u8>) -> Result<(), ReadError>
     ensures ok { OnOk result
@@ -89,14 +109,18 @@ fn push_number32(refusal: Fault, word: &[u8], made: &mut Vec<u8>) -> Result<(), 
     ensures given { RefusesWith result refusal }
 {
     let number = number_of(4294967296, refusal, word)?;
-    let octets = [
-        (number / 16777216) as u8,
-        (number / 65536 % 256) as u8,
-        (number / 256 % 256) as u8,
-        (number % 256) as u8,
-    ];
-    push_all(&octets, made)?;
-    Ok(())
+    push_four(number, made)
+}
+
+/// Appends the seconds that a word is, in digits or with units. It is refused with the fault that is passed.
+fn push_ttl(refusal: Fault, word: &[u8], made: &mut Vec<u8>) -> Result<(), ReadError>
+    ensures ok { OnOk result
+        (with_octets held_ttl made.old.items (read_ttl word.now) ≡ Some made.new.items) }
+    ensures err { IfRefused result refusal (read_ttl word.now ≡ None) }
+    ensures given { RefusesWith result refusal }
+{
+    let seconds = seconds_of_word(refusal, word)?;
+    push_four(seconds, made)
 }
 
 /// Appends the point in time that a word is. It is refused with the fault that is passed.
@@ -107,14 +131,7 @@ fn push_time(refusal: Fault, word: &[u8], made: &mut Vec<u8>) -> Result<(), Read
     ensures given { RefusesWith result refusal }
 {
     let seconds = time_of(refusal, word)?;
-    let parts = [
-        (seconds / 16777216) as u8,
-        (seconds / 65536 % 256) as u8,
-        (seconds / 256 % 256) as u8,
-        (seconds % 256) as u8,
-    ];
-    push_all(&parts, made)?;
-    Ok(())
+    push_four(u64::from(seconds), made)
 }
 
 /// Appends the octets of the address that a word is. It is refused with the fault that is passed.
@@ -311,19 +328,20 @@ fn refusal_of(word: &Word, reason: Reason) -> Fault
 }
 
 /// Appends the octets of a field that is written so, and returns the words after its own. The text has so many octets.
-#[tactic(auto, using(crate::proofs::Refusing::one_refused))]
+#[tactic(auto, using(crate::proofs::Refusing::one_refused, crate::proofs::Refusing::name_refused))]
 fn take_field<'w>(
     alloc: Global,
+    origin: Option<&[u8]>,
     len: usize,
     form: TextForm,
     words: &'w [Word],
     made: &mut Vec<u8>,
 ) -> Result<&'w [Word], ReadError>
-    ensures ok { IfOk result
-        (λ after. take_field len form made.old.items (words_of words.now)
+    ensures ok { IfOk result (λ after. take_field (origin_octets origin.entry) len form
+        made.old.items (words_of words.now)
         ≡ Ok (so_far made.new.items (words_of after.now))) }
-    ensures err { IfFault result
-        (λ f. take_field len form made.old.items (words_of words.now) ≡ Err f) }
+    ensures err { IfFault result (λ f. take_field (origin_octets origin.entry) len form
+        made.old.items (words_of words.now) ≡ Err f) }
 {
     let [word, after @ ..] = words else {
         if may_be_absent(form) {
@@ -345,6 +363,10 @@ fn take_field<'w>(
             push_number32(refusal_of(word, Reason::Number), octets, made)?;
             Ok(after)
         }
+        TextForm::Ttl => {
+            push_ttl(refusal_of(word, Reason::Number), octets, made)?;
+            Ok(after)
+        }
         TextForm::Time => {
             push_time(refusal_of(word, Reason::Time), octets, made)?;
             Ok(after)
@@ -362,7 +384,7 @@ fn take_field<'w>(
             Ok(after)
         }
         TextForm::Name => {
-            push_name(alloc, refusal_of(word, Reason::Name), octets, made)?;
+            push_name(alloc, refusal_of(word, Reason::Name), origin, octets, made)?;
             Ok(after)
         }
         TextForm::CharString => {
@@ -418,20 +440,21 @@ fn take_field<'w>(
 /// The octets of fields of these kinds that words are. The text has so many octets.
 fn fields_of_words(
     alloc: Global,
+    origin: Option<&[u8]>,
     kinds: &[FieldKind],
     len: usize,
     words: &[Word],
 ) -> Result<Vec<u8>, ReadError>
-    ensures ok { IfOk result
-        (λ made. read_fields len (Ok (so_far [] (words_of words.now))) kinds.now ≡ Ok made.items) }
-    ensures err { IfFault result
-        (λ f. read_fields len (Ok (so_far [] (words_of words.now))) kinds.now ≡ Err f) }
+    ensures ok { IfOk result (λ made. read_fields (origin_octets origin.entry) len
+        (Ok (so_far [] (words_of words.now))) kinds.now ≡ Ok made.items) }
+    ensures err { IfFault result (λ f. read_fields (origin_octets origin.entry) len
+        (Ok (so_far [] (words_of words.now))) kinds.now ≡ Err f) }
 {
     let mut made = Vec::new(alloc);
     let mut kinds_left = kinds;
     let mut words_left = words;
     'kind: while let [kind, kinds_after @ ..] = kinds_left {
-        words_left = take_field(alloc, len, text_form(*kind), words_left, &mut made)?;
+        words_left = take_field(alloc, origin, len, text_form(*kind), words_left, &mut made)?;
         kinds_left = kinds_after;
     }
     match words_left {
@@ -443,16 +466,17 @@ fn fields_of_words(
 /// The octets of data with fields of these kinds that words are. The text has so many octets.
 fn data_of_words(
     alloc: Global,
+    origin: Option<&[u8]>,
     kinds: &[FieldKind],
     len: usize,
     words: &[Word],
 ) -> Result<Vec<u8>, ReadError>
-    ensures ok { IfOk result
-        (λ made. fields_octets kinds.now len (words_of words.now) ≡ Ok made.items) }
-    ensures err { IfFault result
-        (λ f. fields_octets kinds.now len (words_of words.now) ≡ Err f) }
+    ensures ok { IfOk result (λ made. fields_octets (origin_octets origin.entry) kinds.now len
+        (words_of words.now) ≡ Ok made.items) }
+    ensures err { IfFault result (λ f. fields_octets (origin_octets origin.entry) kinds.now len
+        (words_of words.now) ≡ Err f) }
 {
-    let made = fields_of_words(alloc, kinds, len, words)?;
+    let made = fields_of_words(alloc, origin, kinds, len, words)?;
     if made.len() > 65535 {
         return Err(refused(len, Reason::LongData));
     }
@@ -525,16 +549,44 @@ fn read_generic(
     Ok(octets)
 }
 
+/// The octets of data of the type in the class that a text says, with an origin or without.
+fn read_with(
+    alloc: Global,
+    origin: Option<&[u8]>,
+    rtype: u16,
+    class: u16,
+    text: &[u8],
+) -> Result<Vec<u8>, ReadError>
+    ensures ok { IfOk result (λ made. text_octets_with (origin_octets origin.entry)
+        (known_fields rtype class) text.now ≡ Ok made.items) }
+    ensures plain { IfOk result
+        (λ made. IsGenericText text.now → IsPlain (known_fields rtype class) made.items) }
+    ensures err { IfFault result (IsReadFaultWith (origin_octets origin.entry)
+        (known_fields rtype class) text.now) }
+{
+    let words = split_words(alloc, text)?;
+    if begins_with_mark(words.as_slice()) {
+        return read_generic(alloc, rtype, class, text.len(), words.as_slice());
+    }
+    data_of_words(
+        alloc,
+        origin,
+        known_fields(rtype, class),
+        text.len(),
+        words.as_slice(),
+    )
+}
+
 /// The octets of data of the type in the class that a text says: its fields, or `\#`, the number of its octets and
 /// these in hexadecimal digits (RFC 3597, 5).
 ///
 /// The text is what an entry has after its type, without parentheses. White space, the ends of lines among it,
-/// separates words, and a semicolon begins a comment. Names have their final dot: there is no origin that would be
-/// added. The octets have no compressed name.
+/// separates words, and a semicolon begins a comment. Names have their final dot: there is no origin, for which
+/// [`read_relative_to`] is. The octets have no compressed name.
 ///
 /// # Errors
 ///
-/// `Refused` with a fault and its offset, of which [`place_of`](crate::place_of) tells line and column: what
+/// `Refused` with a fault and its offset, of which [`place_of`](crate::place_of) returns line and column: what
 /// [`split_words`](crate::split_words) refuses, wherever it is, or else the first from the left of these:
 /// - `MissingWord` and `ExtraWord` where there are fewer words than fields, or more;
 /// - `Number`, `Time`, `Rtype`, `Ipv4`, `Ipv6`, `Name`, `CharString`, `Tag`, `QuotedText`, `Base16`, `Base64`,
@@ -552,14 +604,28 @@ pub fn read(alloc: Global, rtype: u16, class: u16, text: &[u8]) -> Result<Vec<u8
         (λ made. IsGenericText text.now → IsPlain (known_fields rtype class) made.items) }
     ensures err { IfFault result (IsReadFault (known_fields rtype class) text.now) }
 {
-    let words = split_words(alloc, text)?;
-    if begins_with_mark(words.as_slice()) {
-        return read_generic(alloc, rtype, class, text.len(), words.as_slice());
-    }
-    data_of_words(
-        alloc,
-        known_fields(rtype, class),
-        text.len(),
-        words.as_slice(),
-    )
+    read_with(alloc, None, rtype, class, text)
+}
+
+/// The octets of data of the type in the class that a text says, as [`read`], where the text has an origin: a name in
+/// wire format. A name without a final dot goes on with it, and `@` is the origin (RFC 1035, 5.1).
+///
+/// # Errors
+///
+/// As of [`read`]. `Name` is also at a word whose name has more than 255 octets with those of the origin.
+pub fn read_relative_to(
+    alloc: Global,
+    origin: &[u8],
+    rtype: u16,
+    class: u16,
+    text: &[u8],
+) -> Result<Vec<u8>, ReadError>
+    ensures ok { IfOk result (λ made. text_octets_with (Some origin.now)
+        (known_fields rtype class) text.now ≡ Ok made.items) }
+    ensures plain { IfOk result
+        (λ made. IsGenericText text.now → IsPlain (known_fields rtype class) made.items) }
+    ensures err { IfFault result
+        (IsReadFaultWith (Some origin.now) (known_fields rtype class) text.now) }
+{
+    read_with(alloc, Some(origin), rtype, class, text)
 }

@@ -1,15 +1,15 @@
 //! Names as text.
-ghost use Rattle.std.specs.Prelude.{◌≡◌, ◌≤◌, ◌++◌, length, true, false, Some, None, [], ◌∷◌, IfOk, OnOk, IfErr};
+ghost use Rattle.std.specs.Prelude.{◌≡◌, ◌≤◌, ◌-◌, ◌++◌, length, true, false, Some, None, [], ◌∷◌, IfOk, OnOk};
 ghost use Rattle.domain_label.specs.Wire.{wire, Root};
 ghost use Rattle.domain_parsed.specs.ParsedNames.{parsed_labels};
 ghost use Rattle.domain_rdata_text.specs.Words.{lists, AppendedWords};
-ghost use Rattle.domain_rdata_text.specs.Texts.{with_octets};
-ghost use Rattle.domain_rdata_text.specs.Values.Val.{name as held_name};
+ghost use Rattle.domain_rdata_text.specs.Texts.{with_more};
 ghost use Rattle.domain_rdata_text.specs.Values.{counted};
-ghost use Rattle.domain_rdata_text.specs.Names.{is_special, is_unprinted, label_octet, label_text, name_text, read_name, is_name, is_dot, is_root, labels_from};
-ghost use Rattle.domain_rdata_text.specs.Outcome.{IfRefused, RefusesWith, AppendedTo};
+ghost use Rattle.domain_rdata_text.specs.Names.{is_special, is_unprinted, label_octet, label_text, name_text};
+ghost use Rattle.domain_rdata_text.specs.Names.{are_labels_in, is_alone, is_plain, name_parts, origin_octets, parts_from, read_name, whole_name};
+ghost use Rattle.domain_rdata_text.specs.Outcome.{fault, IfFault, IfRefused, RefusesWith, AppendedTo};
 
-use crate::error::{Fault, ReadError};
+use crate::error::{Fault, ReadError, Reason};
 use crate::push::{append, append_all, append_word, copy_of, push, push_all, push_list};
 use crate::symbols::{Symbol, append_in_digits, append_with_slash, symbols_of};
 use domain_parsed::ParsedName;
@@ -94,30 +94,36 @@ pub(crate) fn append_name_word(
     Ok(())
 }
 
-/// Whether the symbol is a dot without a backslash.
-fn is_plain_dot(symbol: Symbol) -> bool
-    ensures { result ≡ is_dot symbol }
+/// Whether the symbol is this octet without a backslash.
+fn is_plain(symbol: Symbol, expected: u8) -> bool
+    ensures { result ≡ is_plain expected symbol }
 {
     match symbol {
-        Symbol::Plain(octet) => octet == b'.',
+        Symbol::Plain(octet) => octet == expected,
         Symbol::Escaped(_) => false,
     }
 }
 
-/// Whether the symbols are a dot alone.
-fn is_dot_alone(symbols: &[Symbol]) -> bool
-    ensures { result ≡ is_root symbols.now }
+/// Whether the symbols are this octet alone, without a backslash.
+fn is_alone(symbols: &[Symbol], expected: u8) -> bool
+    ensures { result ≡ is_alone expected symbols.now }
 {
     match symbols {
-        [symbol] => is_plain_dot(*symbol),
+        [symbol] => is_plain(*symbol, expected),
         _ => false,
     }
 }
 
-/// The labels of symbols, the last with a dot after it. They are refused with the fault that is passed.
-fn labels_of(alloc: Global, refusal: Fault, symbols: &[Symbol]) -> Result<Vec<Vec<u8>>, ReadError>
-    ensures ok { IfOk result (λ made. labels_from [] [] symbols.now ≡ Some (lists made.items)) }
-    ensures err { IfRefused result refusal (labels_from [] [] symbols.now ≡ None) }
+/// The labels with a dot after each, and the octets of a last one without a dot. They are refused with the fault that
+/// is passed.
+fn parts_of(
+    alloc: Global,
+    refusal: Fault,
+    symbols: &[Symbol],
+) -> Result<(Vec<Vec<u8>>, Vec<u8>), ReadError>
+    ensures ok { IfOk result (λ made. parts_from [] [] symbols.now
+        ≡ Some (name_parts (lists made.0.items) made.1.items)) }
+    ensures err { IfRefused result refusal (parts_from [] [] symbols.now ≡ None) }
     ensures given { RefusesWith result refusal }
 {
     let mut labels = Vec::new(alloc);
@@ -139,21 +145,25 @@ fn labels_of(alloc: Global, refusal: Fault, symbols: &[Symbol]) -> Result<Vec<Ve
         }
         rest = after;
     }
-    if !label.is_empty() {
-        return Err(ReadError::Refused(refusal));
-    }
-    Ok(labels)
+    Ok((labels, label))
 }
 
-/// Appends the octets of labels and the root. They are refused with the fault that is passed.
-fn push_labels(refusal: Fault, labels: &[Vec<u8>], made: &mut Vec<u8>) -> Result<(), ReadError>
+/// Appends the octets of labels and of the end of the name: the root, or an origin. They are refused with the fault
+/// that is passed.
+fn push_labels(
+    refusal: Fault,
+    labels: &[Vec<u8>],
+    end: &[u8],
+    made: &mut Vec<u8>,
+) -> Result<(), ReadError>
     ensures ok { OnOk result
-        (AppendedTo made.old.items (wire (lists labels.now ++ Root)) made.new.items) }
-    ensures name { OnOk result (is_name (lists labels.now) ≡ true) }
-    ensures err { IfRefused result refusal (is_name (lists labels.now) ≡ false) }
+        (AppendedTo made.old.items (wire (lists labels.now) ++ end.now) made.new.items) }
+    ensures fit { OnOk result (are_labels_in (255 - length end.now) (lists labels.now) ≡ true) }
+    ensures err { IfRefused result refusal
+        (are_labels_in (255 - length end.now) (lists labels.now) ≡ false) }
     ensures given { RefusesWith result refusal }
 {
-    let mut room: usize = 254;
+    let mut room = 255usize.saturating_sub(end.len());
     let mut rest = labels;
     'label: while let [label, after @ ..] = rest {
         let len = label.len();
@@ -165,33 +175,92 @@ fn push_labels(refusal: Fault, labels: &[Vec<u8>], made: &mut Vec<u8>) -> Result
         push_all(label.as_slice(), made)?;
         rest = after;
     }
-    push(0, made)?;
+    push_all(end, made)?;
     Ok(())
 }
 
-/// Appends the octets of the absolute name that a word is. It is refused with the fault that is passed.
+/// Appends the octets of a name, by its labels with a dot after each and a last one without: with no last one the root
+/// follows, else the origin. They are refused with the fault that is passed.
+fn push_whole(
+    refusal: Fault,
+    origin: Option<&[u8]>,
+    parts: (Vec<Vec<u8>>, Vec<u8>),
+    made: &mut Vec<u8>,
+) -> Result<(), ReadError>
+    ensures ok { OnOk result (with_more made.old.items
+        (whole_name (origin_octets origin.entry) (lists parts.0.items) parts.1.items)
+        ≡ Some made.new.items) }
+    ensures err { IfRefused result refusal
+        (whole_name (origin_octets origin.entry) (lists parts.0.items) parts.1.items ≡ None) }
+    ensures given { RefusesWith result refusal }
+{
+    let (mut labels, last) = parts;
+    if last.is_empty() {
+        if labels.is_empty() {
+            return Err(ReadError::Refused(refusal));
+        }
+        return push_labels(refusal, labels.as_slice(), &[0], made);
+    }
+    let Some(origin) = origin else {
+        return Err(ReadError::Refused(refusal));
+    };
+    push_list(last, &mut labels)?;
+    push_labels(refusal, labels.as_slice(), origin, made)
+}
+
+/// Appends the octets of the name that a word is. A relative name goes on with the origin, and `@` is the origin. The
+/// word is refused with the fault that is passed.
 pub(crate) fn push_name(
     alloc: Global,
     refusal: Fault,
+    origin: Option<&[u8]>,
     word: &[u8],
     made: &mut Vec<u8>,
 ) -> Result<(), ReadError>
     ensures ok { OnOk result
-        (with_octets held_name made.old.items (read_name word.now) ≡ Some made.new.items) }
-    ensures err { IfRefused result refusal (read_name word.now ≡ None) }
+        (with_more made.old.items (read_name (origin_octets origin.entry) word.now)
+        ≡ Some made.new.items) }
+    ensures err { IfRefused result refusal
+        (read_name (origin_octets origin.entry) word.now ≡ None) }
     ensures given { RefusesWith result refusal }
 {
     let symbols = symbols_of(alloc, refusal, word)?;
-    if is_dot_alone(symbols.as_slice()) {
+    if is_alone(symbols.as_slice(), b'@') {
+        let Some(origin) = origin else {
+            return Err(ReadError::Refused(refusal));
+        };
+        push_all(origin, made)?;
+        return Ok(());
+    }
+    if is_alone(symbols.as_slice(), b'.') {
         push(0, made)?;
         return Ok(());
     }
-    let labels = labels_of(alloc, refusal, symbols.as_slice())?;
-    if labels.is_empty() {
-        return Err(ReadError::Refused(refusal));
-    }
-    push_labels(refusal, labels.as_slice(), made)?;
-    Ok(())
+    let parts = parts_of(alloc, refusal, symbols.as_slice())?;
+    push_whole(refusal, origin, parts, made)
+}
+
+/// Returns the octets of the name that a word is, in wire format. A name without a final dot goes on with the origin,
+/// and `@` is the origin (RFC 1035, 5.1). The origin is in wire format, and then so is the name
+/// ([`name_law`](crate::name_law)).
+///
+/// # Errors
+///
+/// `Refused` with `Name` at 0 if the word isn't a name of labels of 1 to 63 octets each, of at most 255 octets with
+/// those of the origin. `Memory` where there was none.
+#[tactic(auto, using(crate::proofs::Refusing::refused_and))]
+pub fn name_relative_to(alloc: Global, origin: &[u8], word: &[u8]) -> Result<Vec<u8>, ReadError>
+    ensures ok { IfOk result (λ made. read_name (Some origin.now) word.now ≡ Some made.items) }
+    ensures err { IfFault result
+        (λ f. (f ≡ fault 0 Reason.Name) × (read_name (Some origin.now) word.now ≡ None)) }
+{
+    let refusal = Fault {
+        at: 0,
+        reason: Reason::Name,
+    };
+    let mut made = Vec::new(alloc);
+    push_name(alloc, refusal, Some(origin), word, &mut made)?;
+    Ok(made)
 }
 
 /// Appends a label with its length before it.

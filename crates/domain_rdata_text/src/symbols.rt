@@ -29,8 +29,8 @@ pub enum Part {
     Two(u16),
 }
 
-/// Whether the octet is a decimal digit.
-pub(crate) fn is_decimal(octet: u8) -> bool
+/// Returns whether the octet is a decimal digit.
+pub fn is_decimal(octet: u8) -> bool
     ensures { result ≡ is_digit octet }
 {
     b'0' <= octet && octet <= b'9'

@@ -1,5 +1,5 @@
 //! What the fields of record data hold.
-ghost use Rattle.std.specs.Prelude.{◌≡◌, ◌++◌, Ok, Err, Some, None, [], ◌∷◌, option_map, IfOk, OnOk};
+ghost use Rattle.std.specs.Prelude.{◌≡◌, ◌+◌, ◌*◌, ◌++◌, Ok, Err, Some, None, [], ◌∷◌, option_map, IfOk, OnOk};
 ghost use Rattle.std.specs.List.{flat_map};
 ghost use Rattle.domain_descriptor.specs.Rdatas.{field_kind, field_message, field_begin, field_after};
 ghost use Rattle.domain_label.specs.Wire.{wire, Root};
@@ -7,7 +7,7 @@ ghost use Rattle.domain_rdata_text.specs.Bitmaps.{types_of_bitmaps};
 ghost use Rattle.domain_rdata_text.specs.Laws.{AreOctets};
 ghost use Rattle.domain_rdata_text.specs.Outcome.{AppendedTo};
 ghost use Rattle.domain_rdata_text.specs.Values.Val.{generic as held_generic};
-ghost use Rattle.domain_rdata_text.specs.Values.{val_of, vals_of, val_in, number8_in, number16_in, rtype_in, number32_in, time_in};
+ghost use Rattle.domain_rdata_text.specs.Values.{val_of, vals_of, val_in, number8_in, number16_in, rtype_in, number32_in, ttl_in, time_in};
 ghost use Rattle.domain_rdata_text.specs.Values.{ipv4_in, ipv6_in, string_in, optional_string_in, counted16_in, counted32_in};
 ghost use Rattle.domain_rdata_text.specs.Values.{types_or, optional_types_or};
 ghost use Rattle.domain_rdata_text.specs.Values.{strings_in, strings_or, is_tag, tag_in, counted, val_octets, vals_octets, ValueAt, HasValues};
@@ -30,6 +30,8 @@ pub enum Value {
     Number16(u16),
     /// A number of 32 bits.
     Number32(u32),
+    /// A TTL, or another span of time in seconds.
+    Ttl(u32),
     /// A point in time, by the seconds since 1970 began.
     Time(u32),
     /// A type of records.
@@ -104,18 +106,29 @@ fn rtype_value(alloc: Global, octets: &[u8]) -> Result<Value, AllocError>
     }
 }
 
+/// The number that four octets are, the high one first (RFC 1035, 2.3.2).
+fn number_of_four(a: u8, b: u8, c: u8, d: u8) -> u32
+    ensures { result ≡ a * 16777216 + b * 65536 + c * 256 + d }
+{
+    u32::from(a) * 16777216 + u32::from(b) * 65536 + u32::from(c) * 256 + u32::from(d)
+}
+
 /// A number of 32 bits.
 fn number32_value(alloc: Global, octets: &[u8]) -> Result<Value, AllocError>
     ensures { IfOk result (λ made. val_of made ≡ number32_in octets.now) }
 {
     match octets {
-        [a, b, c, d] => {
-            let number = u32::from(*a) * 16777216
-                + u32::from(*b) * 65536
-                + u32::from(*c) * 256
-                + u32::from(*d);
-            Ok(Value::Number32(number))
-        }
+        [a, b, c, d] => Ok(Value::Number32(number_of_four(*a, *b, *c, *d))),
+        _ => generic_value(alloc, octets),
+    }
+}
+
+/// A span of time in seconds.
+fn ttl_value(alloc: Global, octets: &[u8]) -> Result<Value, AllocError>
+    ensures { IfOk result (λ made. val_of made ≡ ttl_in octets.now) }
+{
+    match octets {
+        [a, b, c, d] => Ok(Value::Ttl(number_of_four(*a, *b, *c, *d))),
         _ => generic_value(alloc, octets),
     }
 }
@@ -125,13 +138,7 @@ fn time_value(alloc: Global, octets: &[u8]) -> Result<Value, AllocError>
     ensures { IfOk result (λ made. val_of made ≡ time_in octets.now) }
 {
     match octets {
-        [first, second, third, fourth] => {
-            let seconds = u32::from(*first) * 16777216
-                + u32::from(*second) * 65536
-                + u32::from(*third) * 256
-                + u32::from(*fourth);
-            Ok(Value::Time(seconds))
-        }
+        [a, b, c, d] => Ok(Value::Time(number_of_four(*a, *b, *c, *d))),
         _ => generic_value(alloc, octets),
     }
 }
@@ -336,6 +343,7 @@ fn octets_value(alloc: Global, form: TextForm, octets: &[u8]) -> Result<Value, A
         TextForm::Number8 => number8_value(alloc, octets),
         TextForm::Number16 => number16_value(alloc, octets),
         TextForm::Number32 => number32_value(alloc, octets),
+        TextForm::Ttl => ttl_value(alloc, octets),
         TextForm::Time => time_value(alloc, octets),
         TextForm::Rtype => rtype_value(alloc, octets),
         TextForm::Ipv4 => ipv4_value(alloc, octets),

@@ -10,7 +10,7 @@ use std::mem;
 
 /// What an octet of a text is in.
 #[derive(Clone, Copy, Debug, PartialEq, Eq)]
-pub(crate) enum Mode {
+pub enum Mode {
     /// Neither quotes nor a comment.
     Bare,
     /// The same, and it is after a backslash.

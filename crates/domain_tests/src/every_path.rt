@@ -103,10 +103,10 @@ pub mod typed_data {
     pub use domain::rdata::{
         A, Aaaa, Afsdb, AllRecordData, Base16Octets, Base64Octets, Caa, CharString, Cname, Dname,
         Dnskey, Ds, Hinfo, Https, InvalidTag, Kx, LastOctets, LongCharString, Mb, Md, Mf, Mg,
-        Minfo, Mr, Mx, Naptr, Ns, Nsec, Ptr, Px, QuotedOctets, Refusals, Rp, Rrsig, Rt,
-        ServiceData, Soa, Srv, Sshfp, SvcParam, SvcParams, SvcParamsError, SvcParamsIter, Svcb,
-        Tag, Tlsa, Txt, TxtError, TxtIter, TypeBitmaps, TypeBitmapsError, TypesIter,
-        UnknownRecordData,
+        Minfo, Mr, Mx, Naptr, Ns, Nsec, OwnedRecordData, Ptr, Px, QuotedOctets, Refusals, Rp,
+        Rrsig, Rt, ServiceData, Soa, Srv, Sshfp, SvcParam, SvcParams, SvcParamsError,
+        SvcParamsIter, Svcb, Tag, Tlsa, Txt, TxtError, TxtIter, TypeBitmaps, TypeBitmapsError,
+        TypesIter, UnknownRecordData,
     };
 }
 

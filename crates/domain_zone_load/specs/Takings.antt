@@ -15,8 +15,8 @@ use Rattle.domain_zone_text.specs.Reading.EntrySaid.{blank, directive_line, reso
 use Rattle.domain_zone_load.specs.declared.taking.Refusal.{Refusal}
 use Rattle.domain_zone_load.specs.declared.taking.Refusal.TheVariants as refusal
 
--- What the first entry of a zone's text takes where it leaves something out: the apex, in wire format, as the origin,
--- and the class of the zone. There is no owner and no TTL before it.
+-- What the first entry of a zone's text takes where it leaves something out: the apex, in wire format, as the origin
+-- of names, in data too, and the class of the zone. There is no owner and no TTL before it.
 abbrev pub first_setting : List ℕ → ℕ → Setting
 first_setting apex class = record {
   origin = apex;

@@ -91,7 +91,8 @@ fn take_all(
 }
 
 /// Returns the zone of a text (RFC 1035, 5), at this apex and of this class. Until `$ORIGIN` says otherwise, relative
-/// names go on with the apex; until a record says otherwise, the class of records is that of the zone.
+/// names go on with the apex, in data too, and `@` is the apex; until a record says otherwise, the class of records is
+/// that of the zone.
 ///
 /// # Errors
 ///

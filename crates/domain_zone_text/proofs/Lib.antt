@@ -1,5 +1,7 @@
 pub mod Splitting
 pub mod Outcomes
 pub mod Fronts
-pub mod Naming
 pub mod Owning
+pub mod Cutting
+pub mod Named
+pub mod Lines

@@ -2,7 +2,9 @@
 use Rattle.std.proofs.Common.{◌≡◌, ℕ, Bool, List, [], ◌∷◌, length, Option, Some, None, Result, Ok, Err, refl, sym, ap, subst, inl, inr}
 use Rattle.std.specs.Prelude.{codes}
 use Rattle.domain_label.specs.Wire.{IsAbsoluteWire}
+use Rattle.domain_rdata_text.specs.Names.{read_name}
 use Rattle.domain_rdata_text.specs.Words.{WordAt}
+use Rattle.domain_rdata_text.proofs.Naming.{name_is}
 use Rattle.domain_zone_text.specs.declared.error.EntryFault.{EntryFault}
 use Rattle.domain_zone_text.specs.declared.error.EntryReason.TheVariants as reasons
 use Rattle.domain_zone_text.specs.declared.head.Head.{Head}
@@ -12,11 +14,9 @@ use Rattle.domain_zone_text.specs.Heads.{head}
 use Rattle.domain_zone_text.specs.Meanings.{first_of_two, front, of_last_owner, of_owner, RecordFront, Said, said_front, said_line, Setting, with_defaults, with_ttl, words_meaning}
 use Rattle.domain_zone_text.specs.Meanings.Said.{nothing, line, record_front}
 use Rattle.domain_zone_text.specs.Mnemonics.{is_word}
-use Rattle.domain_zone_text.specs.Names.{name}
 use Rattle.domain_zone_text.specs.Outcome.{fault}
 use Rattle.domain_zone_text.specs.Reading.{entry_said, EntrySaid, HasNames, is_indented, line_after, LineHasNames, ReadsEntry, SaysNames, setting_after}
-use Rattle.domain_zone_text.specs.Ttls.{ttl}
-use Rattle.domain_zone_text.proofs.Naming.{name_is}
+use Rattle.domain_rdata_text.specs.Ttls.{ttl}
 use Rattle.domain_zone_text.proofs.Splitting.{chosen}
 
 -- ---- results
@@ -45,7 +45,7 @@ with_name_is f w ws (Some os) l d h = subst (λ (x : Line). LineHasNames x) (unl
 
 origin_is : (o : List ℕ) (n : ℕ) (ws : List WordAt) (l : Line) → IsAbsoluteWire o → AreSame (origin_line o n ws) (Ok l) → LineHasNames l
 origin_is o n [] l d h = absurd (not_both (fault n reasons.MissingWord) l h)
-origin_is o n (w ∷ ws) l d h = with_name_is origin w ws (name o w.octets) l (λ os is. name_is o w.octets os d is) h
+origin_is o n (w ∷ ws) l d h = with_name_is origin w ws (read_name (Some o) w.octets) l (λ os is. name_is (Some o) w.octets d os is) h
 
 default_is : (w : WordAt) (ws : List WordAt) (r : Option ℕ) (l : Line) → AreSame (with_default w ws r) (Ok l) → LineHasNames l
 default_is w ws None l h = absurd (not_both (fault w.begin reasons.Ttl) l h)
@@ -58,7 +58,7 @@ ttl_is n (w ∷ ws) l h = default_is w ws (ttl w.octets) l h
 include_is : (o : List ℕ) (n : ℕ) (ws : List WordAt) (l : Line) → IsAbsoluteWire o → AreSame (include_line o n ws) (Ok l) → LineHasNames l
 include_is o n [] l d h = absurd (not_both (fault n reasons.MissingWord) l h)
 include_is o n (f ∷ []) l d h = subst (λ (x : Line). LineHasNames x) (same_ok (include f.octets) l h) tt
-include_is o n (f ∷ w ∷ ws) l d h = with_name_is (include_at f.octets) w ws (name o w.octets) l (λ os is. name_is o w.octets os d is) h
+include_is o n (f ∷ w ∷ ws) l d h = with_name_is (include_at f.octets) w ws (read_name (Some o) w.octets) l (λ os is. name_is (Some o) w.octets d os is) h
 
 directive_is : (o : List ℕ) (n : ℕ) (w : WordAt) (ws : List WordAt) (l : Line) → IsAbsoluteWire o → AreSame (directive o n w ws) (Ok l) → LineHasNames l
 directive_is o n w ws l d h =
@@ -113,9 +113,9 @@ words_named s indented n [] m d h = subst (λ (x : Said). Named x) (same_ok noth
 words_named s indented n (w ∷ ws) m d h =
     elim (chosen indented (of_last_owner s n (w ∷ ws) s.owner) _ (Ok m) h) [
       | inl (is, a) ↦ last_named s n (w ∷ ws) s.owner m d.owner a
-      | inr (not, a) ↦ elim (chosen (is_directive w.octets) (said_line (directive s.origin n w ws)) (of_owner s n w ws (name s.origin w.octets)) (Ok m) a) [
+      | inr (not, a) ↦ elim (chosen (is_directive w.octets) (said_line (directive s.origin n w ws)) (of_owner s n w ws (read_name (Some s.origin) w.octets)) (Ok m) a) [
         | inl (of, b) ↦ line_named (directive s.origin n w ws) m (λ l k. directive_is s.origin n w ws l d.origin k) b
-        | inr (other, b) ↦ owner_named s n w ws (name s.origin w.octets) m (λ os is. name_is s.origin w.octets os d.origin is) b
+        | inr (other, b) ↦ owner_named s n w ws (read_name (Some s.origin) w.octets) m (λ os is. name_is (Some s.origin) w.octets d.origin os is) b
       ]
     ]
 

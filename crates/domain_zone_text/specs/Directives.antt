@@ -1,14 +1,14 @@
 -- Directives (RFC 1035, 5.1; RFC 2308, 4).
 use Rattle.std.specs.Prelude.{ℕ, Bool, false, List, [], ◌∷◌, Option, Some, None, Result, Ok, Err, ◌==◌, if◌then◌else◌, codes}
+use Rattle.domain_rdata_text.specs.Names.{read_name}
 use Rattle.domain_rdata_text.specs.Words.{WordAt}
 use Rattle.domain_zone_text.specs.declared.directive.Directive.{Directive}
 use Rattle.domain_zone_text.specs.declared.directive.Directive.TheVariants.{Origin, Ttl, Include, IncludeAt}
 use Rattle.domain_zone_text.specs.declared.error.EntryFault.{EntryFault}
 use Rattle.domain_zone_text.specs.declared.error.EntryReason.TheVariants as reasons
 use Rattle.domain_zone_text.specs.Mnemonics.{is_word}
-use Rattle.domain_zone_text.specs.Names.{name}
 use Rattle.domain_zone_text.specs.Outcome.{fault}
-use Rattle.domain_zone_text.specs.Ttls.{ttl}
+use Rattle.domain_rdata_text.specs.Ttls.{ttl}
 
 -- a directive without where it is in memory: a name is its octets in wire format, and a file is its word
 pub data Line : Type 0 where
@@ -51,7 +51,7 @@ with_ttl w ws (Some t) = unless (default_ttl t) (extra_word ws)
 -- `$ORIGIN name`, by the words after the first, in an entry of n octets, where o is the origin
 abbrev pub origin_line : List ℕ → ℕ → List WordAt → Result Line EntryFault
 origin_line o n [] = Err (fault n reasons.MissingWord)
-origin_line o n (w ∷ ws) = with_name origin w ws (name o w.octets)
+origin_line o n (w ∷ ws) = with_name origin w ws (read_name (Some o) w.octets)
 
 -- `$TTL ttl`
 abbrev pub ttl_line : ℕ → List WordAt → Result Line EntryFault
@@ -62,7 +62,7 @@ ttl_line n (w ∷ ws) = with_ttl w ws (ttl w.octets)
 abbrev pub include_line : List ℕ → ℕ → List WordAt → Result Line EntryFault
 include_line o n [] = Err (fault n reasons.MissingWord)
 include_line o n (f ∷ []) = Ok (include f.octets)
-include_line o n (f ∷ w ∷ ws) = with_name (include_at f.octets) w ws (name o w.octets)
+include_line o n (f ∷ w ∷ ws) = with_name (include_at f.octets) w ws (read_name (Some o) w.octets)
 
 -- the directive that the word w and the words after it are, ignoring ASCII case in the first
 abbrev pub directive : List ℕ → ℕ → WordAt → List WordAt → Result Line EntryFault

@@ -8,7 +8,8 @@ use Rattle.domain_zone_text.specs.declared.head.Head.{Head}
 use Rattle.domain_zone_text.specs.declared.head.Stated.{Stated}
 use Rattle.domain_zone_text.specs.Mnemonics.{class_named, rtype_named}
 use Rattle.domain_zone_text.specs.Outcome.{fault}
-use Rattle.domain_zone_text.specs.Ttls.{is_digit, ttl}
+use Rattle.domain_rdata_text.specs.Symbols.{is_digit}
+use Rattle.domain_rdata_text.specs.Ttls.{ttl}
 
 -- a TTL and a class, each of which may be absent
 abbrev pub stated : Option ℕ → Option ℕ → Stated

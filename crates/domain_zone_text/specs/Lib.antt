@@ -1,10 +1,9 @@
 pub mod Outcome
 pub mod Entries
-pub mod Ttls
 pub mod Mnemonics
-pub mod Names
 pub mod Heads
 pub mod Directives
 pub mod Meanings
 pub mod Reading
+pub mod Lines
 pub mod Readers

@@ -1,6 +1,7 @@
 -- What the words of an entry are: a directive, or a record up to its data (RFC 1035, 5.1; RFC 2308, 4).
 use Rattle.std.specs.Prelude.{◌≡◌, ℕ, Bool, List, [], ◌∷◌, length, Option, Some, None, Result, Ok, Err, option_map, unwrap_or, if◌then◌else◌}
 use Rattle.domain_rdata_text.specs.declared.error.Fault.{Fault}
+use Rattle.domain_rdata_text.specs.Names.{read_name}
 use Rattle.domain_rdata_text.specs.Words.{WordAt, split}
 use Rattle.domain_zone_text.specs.declared.context.Context.{Context}
 use Rattle.domain_zone_text.specs.declared.error.EntryFault.{EntryFault}
@@ -11,7 +12,6 @@ use Rattle.domain_zone_text.specs.declared.meaning.Meaning.{Meaning}
 use Rattle.domain_zone_text.specs.declared.meaning.Meaning.TheVariants as kinds
 use Rattle.domain_zone_text.specs.Directives.{Line, directive, directive_view, is_directive}
 use Rattle.domain_zone_text.specs.Heads.{head}
-use Rattle.domain_zone_text.specs.Names.{name}
 use Rattle.domain_zone_text.specs.Outcome.{fault}
 
 -- What earlier entries leave for the next one: the origin and the last owner, in wire format; the TTL of `$TTL`; the
@@ -115,7 +115,7 @@ words_meaning s indented n [] = Ok nothing
 words_meaning s indented n (w ∷ ws) =
     if indented then of_last_owner s n (w ∷ ws) s.owner
     else (if is_directive w.octets then said_line (directive s.origin n w ws)
-    else of_owner s n w ws (name s.origin w.octets))
+    else of_owner s n w ws (read_name (Some s.origin) w.octets))
 
 -- Octets have no fault as words.
 abbrev pub HasWords : List ℕ → Type 0

@@ -4,7 +4,7 @@ use Rattle.std.specs.Char.{eq_ignore_ascii_case}
 use Rattle.domain_header.specs.Mnemonics.{Row}
 use Rattle.domain_header.specs.Rtypes.{rtype_rows}
 use Rattle.domain_header.specs.Tables.{class_rows}
-use Rattle.domain_zone_text.specs.Ttls.{is_digit}
+use Rattle.domain_rdata_text.specs.Symbols.{is_digit}
 
 -- what is behind a word, ignoring ASCII case, if a text begins with it
 abbrev pub behind : List ℕ → List ℕ → Option (List ℕ)

@@ -3,7 +3,7 @@ use Rattle.std.specs.Prelude.{◌≡◌, ◌⊎◌, ℕ, ◌+◌, Bool, false, L
 use Rattle.domain_descriptor.specs.Table.{known_fields}
 use Rattle.domain_label.specs.Wire.{IsAbsoluteWire}
 use Rattle.domain_rdata_text.specs.declared.error.Fault.{Fault}
-use Rattle.domain_rdata_text.specs.Texts.{IsGenericText, IsPlain, IsReadFault, text_octets}
+use Rattle.domain_rdata_text.specs.Texts.{IsGenericText, IsPlain, IsReadFaultWith, text_octets_with}
 use Rattle.domain_zone_text.specs.declared.error.EntryFault.{EntryFault}
 use Rattle.domain_zone_text.specs.declared.error.EntryReason.{EntryReason}
 use Rattle.domain_zone_text.specs.declared.error.EntryReason.TheVariants.{OpenQuote, LoneBackslash, OpenParenthesis, ClosingParenthesis, Name, MissingType, Ttl, Rtype, NoOwner, NoTtl, Directive, MissingWord, ExtraWord, Data}
@@ -34,26 +34,27 @@ entry_said nothing os = blank
 entry_said (line l) os = directive_line l
 entry_said (record_front r) os = resource_record r.owner r.ttl r.class r.rtype os
 
--- The octets are the data that a record of an entry has (RFC 1035, 5.1; RFC 3597, 5).
-pub record IsFrontData (r : RecordFront) (entry os : List ℕ) : Type 0 where
-  pub says : text_octets (known_fields r.rtype r.class) (drop r.end entry) ≡ Ok os
+-- The octets are the data that a record of an entry has, where o is the origin (RFC 1035, 5.1; RFC 3597, 5).
+pub record IsFrontData (o : List ℕ) (r : RecordFront) (entry os : List ℕ) : Type 0 where
+  pub says : text_octets_with (Some o) (known_fields r.rtype r.class) (drop r.end entry) ≡ Ok os
   pub plain : IsGenericText (drop r.end entry) → IsPlain (known_fields r.rtype r.class) os
 
 -- This is the fault of its data.
-abbrev pub IsFrontDataFault : RecordFront → List ℕ → EntryFault → Type 0
-IsFrontDataFault r entry f = (g : Fault)
-    × IsReadFault (known_fields r.rtype r.class) (drop r.end entry) g × (f ≡ fault r.end (Data g))
+abbrev pub IsFrontDataFault : List ℕ → RecordFront → List ℕ → EntryFault → Type 0
+IsFrontDataFault o r entry f = (g : Fault)
+    × IsReadFaultWith (Some o) (known_fields r.rtype r.class) (drop r.end entry) g × (f ≡ fault r.end (Data g))
 
--- The octets are the data of an entry with this meaning: none, where it isn't a record.
-abbrev pub HasData : Said → List ℕ → List ℕ → Type 0
-HasData nothing entry os = os ≡ []
-HasData (line l) entry os = os ≡ []
-HasData (record_front r) entry os = IsFrontData r entry os
+-- The octets are the data of an entry with this meaning: none, where it isn't a record. Names in it go on with the
+-- origin o.
+abbrev pub HasData : List ℕ → Said → List ℕ → List ℕ → Type 0
+HasData o nothing entry os = os ≡ []
+HasData o (line l) entry os = os ≡ []
+HasData o (record_front r) entry os = IsFrontData o r entry os
 
-abbrev pub IsDataFault : Said → List ℕ → EntryFault → Type 0
-IsDataFault nothing entry f = ⊥
-IsDataFault (line l) entry f = ⊥
-IsDataFault (record_front r) entry f = IsFrontDataFault r entry f
+abbrev pub IsDataFault : List ℕ → Said → List ℕ → EntryFault → Type 0
+IsDataFault o nothing entry f = ⊥
+IsDataFault o (line l) entry f = ⊥
+IsDataFault o (record_front r) entry f = IsFrontDataFault o r entry f
 
 -- What a directive leaves: a new origin, or a new TTL of records that state none.
 abbrev pub line_after : Setting → Line → Setting
@@ -81,7 +82,7 @@ pub record ReadsEntry (old : Setting) (text : List ℕ) (said : EntrySaid) (rest
   pub os : List ℕ
   pub entry : cut [] text ≡ Ok (part octets rest)
   pub words : Means old (is_indented text) octets (Ok means)
-  pub holds : HasData means octets os
+  pub holds : HasData old.origin means octets os
   pub is : said ≡ entry_said means os
   pub leaves : new ≡ setting_after old means
 
@@ -117,7 +118,7 @@ pub record IsLaterFault (s : Setting) (text : List ℕ) (f : EntryFault) : Type 
   pub means : Said
   pub entry : cut [] text ≡ Ok (part octets rest)
   pub words : Means s (is_indented text) octets (Ok means)
-  pub fault : IsDataFault means octets f
+  pub fault : IsDataFault s.origin means octets f
 
 -- This is the fault of the first entry of a text.
 abbrev pub IsEntryFault : Setting → List ℕ → EntryFault → Type 0

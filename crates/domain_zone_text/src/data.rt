@@ -1,12 +1,13 @@
 //! The data of records.
 ghost use Rattle.std.specs.Prelude.{◌≡◌, Ok, drop, IfOk};
-ghost use Rattle.domain_zone_text.specs.Meanings.{front_view, meaning_view};
+ghost use Rattle.domain_zone_text.specs.Meanings.{front_view, meaning_view, setting_of};
 ghost use Rattle.domain_zone_text.specs.Outcome.{IfFault};
 ghost use Rattle.domain_zone_text.specs.Reading.{HasData, IsDataFault, IsFrontData, IsFrontDataFault};
 
+use crate::context::Context;
 use crate::error::{EntryError, EntryReason, refused};
 use crate::meaning::{Front, Meaning};
-use domain_rdata_text::{ReadError, read};
+use domain_rdata_text::{ReadError, read_relative_to};
 use std::alloc::Global;
 
 /// Returns the octets from an offset on.
@@ -20,14 +21,20 @@ fn octets_from(octets: &[u8], begin: usize) -> &[u8]
     &[]
 }
 
-/// Returns the octets of the data of a record.
-fn record_data(alloc: Global, front: &Front, entry: &[u8]) -> Result<Vec<u8>, EntryError>
+/// Returns the octets of the data of a record, in which names go on with the origin.
+fn record_data(
+    alloc: Global,
+    origin: &[u8],
+    front: &Front,
+    entry: &[u8],
+) -> Result<Vec<u8>, EntryError>
     ensures ok { IfOk result
-        (λ made. IsFrontData (front_view front.now) entry.now made.items) }
-    ensures err { IfFault result (IsFrontDataFault (front_view front.now) entry.now) }
+        (λ made. IsFrontData origin.now (front_view front.now) entry.now made.items) }
+    ensures err { IfFault result (IsFrontDataFault origin.now (front_view front.now) entry.now) }
 {
-    match read(
+    match read_relative_to(
         alloc,
+        origin,
         front.rtype,
         front.class,
         octets_from(entry, front.end),
@@ -38,14 +45,21 @@ fn record_data(alloc: Global, front: &Front, entry: &[u8]) -> Result<Vec<u8>, En
     }
 }
 
-/// Returns the octets of the data of an entry with this meaning, if it is a record, and else none.
-pub(crate) fn data_of(alloc: Global, meaning: &Meaning, entry: &[u8]) -> Result<Vec<u8>, EntryError>
-    ensures ok { IfOk result
-        (λ made. HasData (meaning_view meaning.now) entry.now made.items) }
-    ensures err { IfFault result (IsDataFault (meaning_view meaning.now) entry.now) }
+/// Returns the octets of the data of an entry with this meaning, if it is a record, and else none. Names in it go on
+/// with the origin of the context.
+pub(crate) fn data_of(
+    alloc: Global,
+    context: &Context,
+    meaning: &Meaning,
+    entry: &[u8],
+) -> Result<Vec<u8>, EntryError>
+    ensures ok { IfOk result (λ made. HasData (setting_of context.now).origin
+        (meaning_view meaning.now) entry.now made.items) }
+    ensures err { IfFault result (IsDataFault (setting_of context.now).origin
+        (meaning_view meaning.now) entry.now) }
 {
     match meaning {
-        Meaning::Record(front) => record_data(alloc, front, entry),
+        Meaning::Record(front) => record_data(alloc, context.origin.as_slice(), front, entry),
         _ => Ok(Vec::new(alloc)),
     }
 }

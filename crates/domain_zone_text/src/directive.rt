@@ -8,8 +8,7 @@ use crate::error::{EntryError, EntryFault, EntryReason, fault_of, refused};
 use crate::mnemonic::is_same;
 use crate::name::name_of;
 use crate::push::copy_of;
-use crate::ttl::ttl_of;
-use domain_rdata_text::Word;
+use domain_rdata_text::{Word, ttl_of};
 use std::alloc::Global;
 
 /// A directive.

@@ -5,8 +5,7 @@ ghost use Rattle.domain_zone_text.specs.Heads.{begin_of, begins_with_digit, head
 
 use crate::error::{EntryFault, EntryReason, fault_of};
 use crate::mnemonic::{class_of, rtype_of};
-use crate::ttl::{is_decimal, ttl_of};
-use domain_rdata_text::Word;
+use domain_rdata_text::{Word, is_decimal, ttl_of};
 
 /// The TTL and the class that an entry states.
 #[derive(Clone, Copy, Debug, PartialEq, Eq)]

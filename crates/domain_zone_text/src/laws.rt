@@ -1,10 +1,10 @@
 //! Laws of the text of zones.
-ghost use Rattle.std.specs.Prelude.{◌≡◌, ℕ, List, [], Ok, Some};
-ghost use Rattle.domain_label.specs.Wire.{IsAbsoluteWire};
+ghost use Rattle.std.specs.Prelude.{◌≡◌, ℕ, List, [], Ok};
+ghost use Rattle.std.specs.List.{AllByRecursion};
 ghost use Rattle.domain_zone_text.specs.declared.error.EntryFault.{EntryFault};
 ghost use Rattle.domain_zone_text.specs.Entries.{cut, IsLinesAndRest, part};
+ghost use Rattle.domain_zone_text.specs.Lines.{Written, IsRecord, ReadsRecords, record_lines};
 ghost use Rattle.domain_zone_text.specs.Meanings.{HasWords, Setting};
-ghost use Rattle.domain_zone_text.specs.Names.{name};
 ghost use Rattle.domain_zone_text.specs.Reading.{EntrySaid, HasNames, IsEntryFault, ReadsEntry, SaysNames};
 
 /// The call does nothing: its contract is the law. No text has both, a first entry and a fault of it. So
@@ -38,16 +38,16 @@ pub fn lines_law()
         → IsLinesAndRest text octets rest }
 {}
 
-/// The call does nothing: its contract is the law. A name that a word is, where the origin is in wire format, is in
-/// wire format (RFC 1035, 3.1): it has labels of 1 to 63 octets, the root, and at most 255 octets.
-pub fn name_law()
-    ensures { (origin word os : List ℕ) → IsAbsoluteWire origin → name origin word ≡ Some os
-        → IsAbsoluteWire os }
-{}
-
 /// The call does nothing: its contract is the law. Each name of an entry, and each that it leaves for the next one, is
 /// in wire format, if those of the context are.
 pub fn names_law()
     ensures { (s : Setting) (text : List ℕ) (said : EntrySaid) (rest : List ℕ) (new : Setting)
         → ReadsEntry s text said rest new → HasNames s → SaysNames said × HasNames new }
+{}
+
+/// The call does nothing: its contract is the law. The lines of records are read as these records, and as nothing
+/// else, whatever entries came before: so a zone that is written is read as the same zone.
+pub fn written_law()
+    ensures { (rs : List Written) → AllByRecursion IsRecord rs → (s : Setting)
+        → ReadsRecords s (record_lines rs) rs }
 {}

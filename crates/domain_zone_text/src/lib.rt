@@ -14,13 +14,11 @@ mod name;
 mod push;
 pub mod reader;
 pub mod reading;
-pub mod ttl;
 
 pub use context::Context;
 pub use directive::Directive;
 pub use entry::cut_entry;
 pub use error::{EntryError, EntryFault, EntryReason};
-pub use laws::{entry_law, lines_law, name_law, names_law, outcome_law, words_law};
+pub use laws::{entry_law, lines_law, names_law, outcome_law, words_law, written_law};
 pub use reader::{ZoneReader, ZoneTextError};
 pub use reading::{Entry, EntryAndRest, Record, fault_place, read_entry};
-pub use ttl::ttl_of;

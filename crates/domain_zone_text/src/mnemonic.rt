@@ -5,10 +5,10 @@ ghost use Rattle.domain_header.specs.Tables.{class_rows};
 ghost use Rattle.domain_header.specs.Rtypes.{rtype_rows};
 ghost use Rattle.domain_zone_text.specs.Mnemonics.{behind, is_word, row_number, number, named, class_named, rtype_named};
 
-use crate::ttl::is_decimal;
 use domain_header::class::classes;
 use domain_header::mnemonic::Mnemonic;
 use domain_header::rtypes::rtypes;
+use domain_rdata_text::is_decimal;
 
 /// Returns what follows a word in a text, ignoring ASCII case. `None` if the text doesn't begin with the word.
 fn text_after<'t>(word: &[u8], text: &'t [u8]) -> Option<&'t [u8]>

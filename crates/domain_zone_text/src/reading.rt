@@ -136,7 +136,8 @@ fn entry_of(meaning: Meaning, data: Vec<u8>) -> Entry
 /// - of a directive `Ttl` at a word that isn't a TTL, `MissingWord` and `ExtraWord` where it has fewer words, or more;
 /// - `Ttl` or `Rtype` at a word that isn't a type, and `MissingType` where there is none;
 /// - `NoTtl` at the type, if the record states no TTL and the context has none;
-/// - `Data` at the begin of the data, with the fault that [`read`](domain_rdata_text::read) returns of it.
+/// - `Data` at the begin of the data, with the fault that [`read_relative_to`](domain_rdata_text::read_relative_to)
+///   returns of it.
 ///
 /// `Memory` where there was none, and the context is unchanged.
 pub fn read_entry<'t>(
@@ -155,7 +156,7 @@ pub fn read_entry<'t>(
     let rest = cut_entry(text, &mut octets)?;
     let indented = begins_with_space(text);
     let meaning = meaning_of(alloc, context, indented, octets.as_slice())?;
-    let data = data_of(alloc, &meaning, octets.as_slice())?;
+    let data = data_of(alloc, context, &meaning, octets.as_slice())?;
     update(alloc, context, &meaning)?;
     let entry = entry_of(meaning, data);
     Ok(EntryAndRest { entry, rest })

@@ -1,14 +1,13 @@
 //! The records of a message as lines of text, whatever their types.
 ghost use Rattle.std.specs.Prelude.{◌≡◌, ◌<◌, length};
 
-use domain_all_data::AllRecordData;
+use domain_any_rdata::AllRecordData;
 use domain_message::{Message, Record};
-use domain_rdata::ParseAnyRecordData;
 use domain_wire::ParseError;
 use std::io::Write;
 
-/// Writes a line for each record of the answer section: owner, TTL, class, type, and data as its type has it. Returns
-/// whether all were written.
+/// Writes a line for each record of the answer section: owner, TTL, class, type, and data as its type and class have
+/// it. Returns whether all were written.
 pub fn show_answers<W: Write>(octets: &[u8], output: &mut W) -> Result<bool, ParseError>
     ensures { length octets.now < 12 → result ≡ Err ParseError.ShortInput }
 {
@@ -18,7 +17,7 @@ pub fn show_answers<W: Write>(octets: &[u8], output: &mut W) -> Result<bool, Par
     for item in message.answer()? {
         let found = item?;
         let mut data = found.data();
-        let data = AllRecordData::parse_any_rdata(found.rtype(), &mut data)?;
+        let data = AllRecordData::parse_in(found.rtype(), found.class(), &mut data)?;
         let record = Record::new(found.owner(), found.class(), found.ttl(), data);
         if writeln!(output, "{record}").is_err() {
             return Ok(false);

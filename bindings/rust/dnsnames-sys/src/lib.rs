@@ -42,7 +42,7 @@ pub const DNSNAMES_LONG_NAME: dnsnames_status = 4;
 pub const DNSNAMES_COMPRESSED: dnsnames_status = 5;
 /// Octets of an absolute name: they end after a label that is not the root.
 pub const DNSNAMES_RELATIVE: dnsnames_status = 6;
-/// Octets of an absolute name: more octets follow the root.
+/// Octets of an absolute name: more octets follow the root. Data of a record: more octets follow the last field.
 pub const DNSNAMES_TRAILING_DATA: dnsnames_status = 7;
 /// The buffer is too small. It is unchanged, and `*length` is how many octets are needed.
 pub const DNSNAMES_NO_ROOM: dnsnames_status = 8;
@@ -82,7 +82,7 @@ pub const DNSNAMES_WRONG_ORDER: dnsnames_status = 24;
 pub const DNSNAMES_TOO_MANY_ENTRIES: dnsnames_status = 25;
 /// Building: there is no such section.
 pub const DNSNAMES_NO_SECTION: dnsnames_status = 26;
-/// All strings or options of the data were given: no fault, but the end.
+/// All fields, strings or options of the data were given: no fault, but the end.
 pub const DNSNAMES_NO_MORE: dnsnames_status = 27;
 /// Text of a message: an entry hasn't the form of one.
 pub const DNSNAMES_BAD_FORM: dnsnames_status = 28;
@@ -92,6 +92,16 @@ pub const DNSNAMES_NO_TEXT: dnsnames_status = 29;
 pub const DNSNAMES_NO_END: dnsnames_status = 30;
 /// Building: the mark is no builder as its calls leave it, or is longer than the message.
 pub const DNSNAMES_NO_MARK: dnsnames_status = 31;
+/// Data of a record: a tag is empty, or has another octet than letters and digits (RFC 8659, 4.1).
+pub const DNSNAMES_BAD_TAG: dnsnames_status = 32;
+/// Data of a record: the hash of NSEC3 is empty (RFC 5155, 3.1.6).
+pub const DNSNAMES_EMPTY_HASH: dnsnames_status = 33;
+/// Data of a record: the windows of a type bitmap don't ascend (RFC 4034, 4.1.2).
+pub const DNSNAMES_WINDOW_ORDER: dnsnames_status = 34;
+/// Data of a record: a block of a type bitmap has no octet, or more than 32 (RFC 4034, 4.1.2).
+pub const DNSNAMES_BITMAP_LENGTH: dnsnames_status = 35;
+/// Data of a record: the keys of service parameters don't ascend (RFC 9460, 2.2).
+pub const DNSNAMES_KEY_ORDER: dnsnames_status = 36;
 
 // What a row of `dnsnames_table` has at which place, and how many numbers it has.
 pub const DNSNAMES_ROW_NAME: usize = 0;
@@ -113,7 +123,35 @@ pub const DNSNAMES_FLAG_RA: u16 = 0x0080;
 pub const DNSNAMES_FLAG_AD: u16 = 0x0020;
 pub const DNSNAMES_FLAG_CD: u16 = 0x0010;
 
-// The numbers of data, by how many numbers are before them.
+// What the fields of data are.
+pub const DNSNAMES_FIELD_NUMBER8: u32 = 1;
+pub const DNSNAMES_FIELD_NUMBER16: u32 = 2;
+pub const DNSNAMES_FIELD_NUMBER32: u32 = 3;
+pub const DNSNAMES_FIELD_NUMBER48: u32 = 4;
+pub const DNSNAMES_FIELD_NUMBER64: u32 = 5;
+pub const DNSNAMES_FIELD_TTL: u32 = 6;
+pub const DNSNAMES_FIELD_SERIAL: u32 = 7;
+pub const DNSNAMES_FIELD_TIME: u32 = 8;
+pub const DNSNAMES_FIELD_TYPE: u32 = 9;
+pub const DNSNAMES_FIELD_IPV4: u32 = 10;
+pub const DNSNAMES_FIELD_IPV6: u32 = 11;
+pub const DNSNAMES_FIELD_NAME: u32 = 12;
+pub const DNSNAMES_FIELD_CHAR_STRING: u32 = 13;
+pub const DNSNAMES_FIELD_OPTIONAL_STRING: u32 = 14;
+pub const DNSNAMES_FIELD_CHAR_STRINGS: u32 = 15;
+pub const DNSNAMES_FIELD_TAG: u32 = 16;
+pub const DNSNAMES_FIELD_QUOTED_TEXT: u32 = 17;
+pub const DNSNAMES_FIELD_COUNTED_BASE16: u32 = 18;
+pub const DNSNAMES_FIELD_COUNTED_BASE32: u32 = 19;
+pub const DNSNAMES_FIELD_COUNTED_BASE64: u32 = 20;
+pub const DNSNAMES_FIELD_TYPE_BITMAPS: u32 = 21;
+pub const DNSNAMES_FIELD_OPTIONAL_TYPE_BITMAPS: u32 = 22;
+pub const DNSNAMES_FIELD_SVC_PARAMS: u32 = 23;
+pub const DNSNAMES_FIELD_BASE16: u32 = 24;
+pub const DNSNAMES_FIELD_BASE64: u32 = 25;
+pub const DNSNAMES_FIELD_OCTETS: u32 = 26;
+
+// Numbers of some data, by how many numbers are before them.
 pub const DNSNAMES_PREFERENCE: usize = 0;
 pub const DNSNAMES_PRIORITY: usize = 0;
 pub const DNSNAMES_WEIGHT: usize = 1;
@@ -220,6 +258,16 @@ pub struct dnsnames_record_fields {
     pub data: usize,
     pub data_len: usize,
     pub end: usize,
+}
+
+/// A field of data: what it is, where it begins and ends in the message, and the number that it is, or 0.
+#[derive(Clone, Copy, Debug, Default, PartialEq, Eq)]
+#[repr(C)]
+pub struct dnsnames_field {
+    pub kind: u32,
+    pub begin: usize,
+    pub end: usize,
+    pub number: u64,
 }
 
 /// What an OPT record says (RFC 6891, 6.1.2 and 6.1.3).
@@ -413,6 +461,17 @@ extern "C" {
         length: *mut usize,
     ) -> dnsnames_status;
     /// The name with `index` names before it in the data of a record.
+    pub fn dnsnames_data_field(
+        message: *const u8,
+        message_len: usize,
+        data: usize,
+        data_len: usize,
+        r#type: u16,
+        class_: u16,
+        index: usize,
+        field: *mut dnsnames_field,
+    ) -> dnsnames_status;
+
     pub fn dnsnames_data_name(
         message: *const u8,
         message_len: usize,

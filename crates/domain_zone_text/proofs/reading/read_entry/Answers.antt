@@ -30,7 +30,7 @@ word_fault s text none octets rest first indented f empty entry at one words =
 -- a fault of the data of an entry, by what was computed of the text
 later_fault : (s : Setting) (text none octets rest first second : List ℕ) (indented : Bool) (means : Said) (f : EntryFault)
     → none ≡ [] → cut none text ≡ Ok (part octets rest) → indented ≡ is_indented text → first ≡ octets
-    → Means s indented first (Ok means) → second ≡ octets → IsDataFault means second f → IsEntryFault s text f
+    → Means s indented first (Ok means) → second ≡ octets → IsDataFault s.origin means second f → IsEntryFault s text f
 later_fault s text none octets rest first second indented means f empty entry at one words two fault =
     inr (inr (record {
       octets = octets;
@@ -38,7 +38,7 @@ later_fault s text none octets rest first second indented means f empty entry at
       means = means;
       entry = cut_so text none octets rest empty entry;
       words = subst (λ (x : Bool). Means s x octets (Ok means)) at (subst (λ (x : List ℕ). Means s indented x (Ok means)) one words);
-      fault = subst (λ (x : List ℕ). IsDataFault means x f) two fault;
+      fault = subst (λ (x : List ℕ). IsDataFault s.origin means x f) two fault;
     }))
 
 pub meaning_of-requires : goal.meaning_of-requires

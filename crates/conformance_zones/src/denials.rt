@@ -1,0 +1,47 @@
+//! A zone that is made of records, and what shows that names and types aren't there.
+
+use crate::fields::name_of;
+use crate::zones::{put_rrset, zone_of};
+use conformance_labels::{Answer, is, number_up_to, split_once};
+use domain_zone::{Owner, Zone};
+use domain_zone_denial::{Denial, denial_for};
+use domain_zone_laws::zone::Rrset;
+
+/// `denial APEX RECORDS QUESTIONS`
+pub fn put_denials(out: &Answer, apex: &[u8], records: &[u8], questions: &[u8]) {
+    let Some(zone) = zone_of(out, apex, records) else {
+        return;
+    };
+    if is(questions, b"-") {
+        return;
+    }
+    for question in questions.split(|octet| *octet == b';') {
+        let (name, rtype) = split_once(question, b'/');
+        let rtype = number_up_to(out, rtype.unwrap_or(b""), 65535) as u16;
+        if let Some(name) = name_of(out, name) {
+            put_denial(out, &zone, &name, rtype);
+        }
+    }
+}
+
+/// Appends the RRsets for what a zone answers to a question.
+fn put_denial(out: &Answer, zone: &Zone, name: &Owner, rtype: u16) {
+    let asked = name.for_slice();
+    let answer = zone.lookup(&asked, rtype);
+    let Denial { first, second } = denial_for(zone, &asked, &answer);
+    out.put(b";");
+    let before = put_set(out, b" ", first);
+    let before = put_set(out, before, second);
+    if is(before, b" ") {
+        out.put(b" -");
+    }
+}
+
+/// Appends an RRset, if there is one, and returns what comes before the next.
+fn put_set<'a>(out: &Answer, before: &'a [u8], set: Option<&Rrset<Owner>>) -> &'a [u8] {
+    let Some(set) = set else {
+        return before;
+    };
+    put_rrset(out, before, set);
+    b","
+}

@@ -1,5 +1,0 @@
-pub mod AllData
-pub mod AllTypes
-pub mod TypedOctets
-pub mod Visits
-pub mod Written

@@ -1,0 +1,14 @@
+use Rattle.std.proofs.Common.{◌∙◌, ◌==◌, List, ℕ, ap}
+use Rattle.std.specs.Cmp.Lexicographic.{pointwise}
+use Rattle.domain_any_rdata.specs.Keys.{data_key}
+use Rattle.domain_any_rdata.specs.Owned.{owned_key}
+use Rattle.domain_any_rdata.proofs.Viewing.{same_key}
+use Rattle.domain_any_rdata.proofs.owned_calls.OwnedRecordDataPartialEq.eq.Goals as goal
+
+pub returns : goal.returns
+returns c =
+    let one = same_key c.args.self.now c.as_data.result c.as_data.ensures in
+    let two = same_key c.args.other.now c.as_data-2.result c.as_data-2.ensures in
+    c.eq.ensures
+    ∙ ap (λ (k : List ℕ). pointwise ◌==◌ k (data_key c.as_data-2.result)) one
+    ∙ ap (λ (k : List ℕ). pointwise ◌==◌ (owned_key c.args.self.now) k) two

@@ -1,0 +1,10 @@
+pub mod Ordering
+pub mod Chaining
+pub mod Lasting
+pub mod Unique
+pub mod Existing
+pub mod Covering
+pub mod Plain
+pub mod Convincing
+pub mod Searching
+pub mod Sources

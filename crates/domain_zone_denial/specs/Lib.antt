@@ -1,0 +1,5 @@
+pub mod Denial
+pub mod Chain
+pub mod Cuts
+pub mod Laws
+pub mod Views
