@@ -3,7 +3,7 @@ use Rattle.domain_flat.specs.Flat.{suffix_lists}
 use Rattle.domain_list.specs.Ends.{EndsWith}
 use Rattle.domain_name.specs.Names.{name_labels}
 use Rattle.domain_name.specs.Suffixes.{suffix_lists_left}
-use Rattle.domain_zone.specs.Records.{records_view}
+use Rattle.domain_zone_laws.specs.Views.{zone_of}
 use Rattle.domain_zone_laws.specs.Zone.{Exists}
 use Rattle.domain_zone_answer.proofs.encloser.closest_encloser.Given as goal
 
@@ -12,4 +12,4 @@ abbrev pub invariant-loop-suffix : goal.invariant-loop-suffix
 invariant-loop-suffix l =
     ((goal.iterator-loop-suffix).can_next l.suffixes × (goal.iterator-loop-suffix).is_finite l.suffixes) ×
     ((rest : List (List ℕ)) × (suffix_lists_left l.suffixes ≡ suffix_lists rest) × EndsWith (name_labels l.fn.name) rest
-    × ((a : List (List ℕ)) → Exists (records_view l.records) a → EndsWith (name_labels l.fn.name) a → EndsWith rest a))
+    × ((a : List (List ℕ)) → Exists (zone_of name_labels l.records) a → EndsWith (name_labels l.fn.name) a → EndsWith rest a))
