@@ -1,22 +1,14 @@
 -- The lists that were found, and the source of synthesis of a name that doesn't exist, which is a name.
-use Rattle.std.proofs.Common.{◌≡◌, ℕ, ◌+◌, ◌<◌, ◌≤◌, List, [], ◌∷◌, ◌++◌, length, Option, Some, None, MatchOption, refl, sym, ap, arith, inl, inr, length-append}
+use Rattle.std.proofs.Common.{◌≡◌, ℕ, List, [], ◌++◌, Option, Some, None, MatchOption, refl, inl, inr}
 use Rattle.std.specs.Borrow.{Bor}
-use Rattle.std.specs.Char.{to_ascii_lowercase}
-use Rattle.std.proofs.lemmas.List.{length-map}
 use Rattle.octseq.specs.declared.octets.Octets.{Ghosts}
-use Rattle.domain_label.specs.Lowercase.{lowercase, lowercase_labels}
-use Rattle.domain_label.specs.Wire.{wire, IsAbsolute, IsAbsoluteName}
-use Rattle.domain_list.proofs.SuffixBySize.{front_size}
-use Rattle.domain_list.specs.Chains.{before_root}
-use Rattle.domain_list.specs.NameLaws.{before_absolute}
 use Rattle.domain_name.specs.declared.absolute.Name.{Name}
 use Rattle.domain_zone.specs.Records.{set_view}
 use Rattle.domain_zone_answer.specs.Sets.{set_list}
-use Rattle.domain_zone_laws.proofs.Nodes.{exists_same}
 use Rattle.domain_zone_laws.specs.Views.{reply_of}
 use Rattle.domain_zone_laws.specs.declared.reply.Reply as code
 use Rattle.domain_zone_laws.specs.declared.reply.Reply.TheVariants as variants
-use Rattle.domain_zone_laws.specs.Zone.{Zone, RRset, IsAt, HasType, Exists, IsClosestEncloser, source_of_synthesis}
+use Rattle.domain_zone_laws.specs.Zone.{Zone, RRset, IsAt, HasType}
 use Rattle.domain_zone_laws.specs.declared.zone.Rrset.{Rrset}
 use Rattle.domain_zone_denial.proofs.Ordering.{Names}
 use Rattle.domain_zone_denial.specs.Denial.{IsNsecFor, AreNsecFor, AreAt, DeniesBeside}

@@ -1,6 +1,5 @@
 -- Addresses that are required, and others.
 use Rattle.std.proofs.Common.{◌≡◌, ℕ, List, [], ◌∷◌, ◌++◌, sym, subst, append_assoc, append-nil, inl, inr}
-use Rattle.domain_list.specs.Ends.{EndsWith}
 use Rattle.domain_zone_laws.specs.Zone.{RRset}
 use Rattle.domain_zone_response.specs.Included.{Parts, IsRequired}
 use Rattle.domain_zone_response.specs.Views.{TakesPart}

@@ -1,18 +1,18 @@
 -- The response with records of DNSSEC is determined.
-use Rattle.std.proofs.Common.{◌≡◌, ℕ, List, [], ◌∷◌, ◌++◌, map, refl, sym, ap, subst, ◌∙◌, ⊎_elim, inl, inr}
-use Rattle.std.specs.Prelude.{◌⊎◌, Bool, true, false, fold}
+use Rattle.std.proofs.Common.{◌≡◌, ℕ, List, [], ◌∷◌, ◌++◌, map, sym, ap, subst, ◌∙◌, inl, inr}
+use Rattle.std.specs.Prelude.{Bool, true, false, fold}
 use Rattle.domain_zone_answer.specs.Sections.{Sections}
-use Rattle.domain_zone_chain.specs.Chains.{Step, step, step_name, IsChain}
+use Rattle.domain_zone_chain.specs.Chains.{Step, step, step_name}
 use Rattle.domain_zone_chain.specs.ChainSections.{IsFollowedBy, Follows, with_rrset}
 use Rattle.domain_zone_chain.specs.Laws.{HasOneChain, HasOneChainResponse}
 use Rattle.domain_zone_denial.specs.Denial.{DeniesFor}
 use Rattle.domain_zone_denial.specs.Laws.{HasOneDenial}
 use Rattle.domain_zone_laws.proofs.Nodes.{at_same}
-use Rattle.domain_zone_laws.specs.Answers.{Outcome, Answers}
+use Rattle.domain_zone_laws.specs.Answers.{Outcome}
 use Rattle.domain_zone_laws.specs.Laws.{HasOneOutcome}
 use Rattle.domain_zone_laws.specs.Zone.{Zone, RRset, RRSIG, IsZone, source_of_synthesis}
 use Rattle.domain_zone_signed.specs.Laws.{HasOneSignedResponse, IsPlainWithout}
-use Rattle.domain_zone_signed.specs.Signing.{IsCovered, IsSignatureSet, signatures, AreSignaturesOf, AreSigned, AddsDenial, AddDenials, AddsDnssecIf, FollowsWith}
+use Rattle.domain_zone_signed.specs.Signing.{signatures, AreSignaturesOf, AreSigned, AddsDenial, AddDenials, AddsDnssecIf}
 use Rattle.domain_zone_signed.proofs.Searching.{HasOneSet, one_source}
 
 pub one_set : (z : Zone) → IsZone z → HasOneSet z

@@ -1,9 +1,8 @@
 use Rattle.std.proofs.Common.{◌+◌, ◌++◌, ◌∷◌, drop, length, sym, ap, subst, ◌∙◌}
 use Rattle.std.proofs.lemmas.List.{drop_more, drop_all, map-append, length-map}
-use Rattle.domain_zone_laws.specs.Zone.{RRset}
 use Rattle.domain_zone_response.specs.Included.{cut_of}
 use Rattle.domain_zone_response.specs.Views.{TakesPart}
-use Rattle.domain_zone_response.proofs.Parting.{GoesOn, begins, takes_part, ends}
+use Rattle.domain_zone_response.proofs.Parting.{begins, takes_part, ends}
 use Rattle.domain_zone_response.proofs.glue.glue_of.Goals as goal
 use Rattle.domain_zone_signed.specs.Views.{response_view, response_views, signed_last, signed_sections}
 

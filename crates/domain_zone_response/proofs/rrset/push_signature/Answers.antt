@@ -1,8 +1,6 @@
-use Rattle.std.proofs.Common.{◌≡◌, ◌≢◌, ◌∷◌, [], Bool, true, false, cond, map, refl, sym, ap, subst, ◌∙◌}
-use Rattle.std.specs.List.{filter}
+use Rattle.std.proofs.Common.{◌∷◌, [], map, sym, ap, subst, ◌∙◌}
 use Rattle.domain_header.specs.Values.{class_number}
 use Rattle.domain_message_builder.specs.Builders.{state, target_room}
-use Rattle.domain_zone_laws.specs.Zone.{covered_type}
 use Rattle.domain_zone_response.specs.Pushing.{record_of, Gains, CannotAdd}
 use Rattle.domain_zone_response.proofs.Covering.{keeps_one, keeps_none, passes, fails}
 use Rattle.domain_zone_response.proofs.Growing.{gains_none}

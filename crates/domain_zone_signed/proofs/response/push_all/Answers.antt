@@ -1,4 +1,4 @@
-use Rattle.std.proofs.Common.{◌++◌, ◌∷◌, [], map, take, sym, ap, subst, ◌∙◌, take_all}
+use Rattle.std.proofs.Common.{◌++◌, ◌∷◌, [], take, sym, ap, subst, ◌∙◌, take_all}
 use Rattle.std.proofs.lemmas.List.{map_more}
 use Rattle.domain_zone.specs.Kept.{zone_view}
 use Rattle.domain_zone_chain.specs.Views.{answer_view, answer_views}

@@ -1,4 +1,4 @@
-use Rattle.std.proofs.Common.{◌++◌, MatchOption, sym, subst, true≢false, ◌∙◌}
+use Rattle.std.proofs.Common.{MatchOption, sym, subst, true≢false, ◌∙◌}
 use Rattle.domain_list.specs.Ends.{EndsWith}
 use Rattle.domain_name.specs.Names.{name_labels}
 use Rattle.domain_zone.specs.Kept.{zone_view}
