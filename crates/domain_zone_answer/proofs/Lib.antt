@@ -4,5 +4,4 @@ pub mod Choosing
 pub mod Filtering
 pub mod OneResponse
 pub mod SoaLaws
-pub mod Sources
 pub mod Wildcards

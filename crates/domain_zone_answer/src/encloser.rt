@@ -1,21 +1,16 @@
-//! The RRsets of a name, the closest encloser of one, and the wildcard that answers for it.
-ghost use Rattle.std.specs.Prelude.{◌≡◌, ◌<◌, ◌↔◌, ◌++◌, IsTrue, ℕ, List, length, slice_index_or};
-ghost use Rattle.domain_list.specs.ChainParts.{left_part, right_part};
-ghost use Rattle.domain_list.specs.Ends.{EndsWith};
-ghost use Rattle.domain_name.specs.Names.{name_labels, relative_labels};
-ghost use Rattle.domain_zone.specs.Neighbours.{IsBeside};
+//! The RRsets of a name, and of the wildcard that answers for one.
+ghost use Rattle.std.specs.Prelude.{ℕ, List};
+ghost use Rattle.domain_name.specs.Names.{name_labels};
 ghost use Rattle.domain_zone.specs.Records.{records_view, set_view};
 ghost use Rattle.domain_zone_answer.specs.Sections.{IsChosen};
 ghost use Rattle.domain_zone_laws.specs.Sorted.{IsSorted};
-ghost use Rattle.domain_zone_laws.specs.Zone.{RRset, IsZone, Exists, IsClosestEncloser};
-ghost use Rattle.domain_zone_laws.specs.Zone.{OwnsRecords};
+ghost use Rattle.domain_zone_laws.specs.Zone.{IsZone, Exists, IsClosestEncloser, OwnsRecords};
 ghost use Rattle.domain_zone_laws.specs.Zone.{source_of_synthesis};
 
-use domain_list::ends::ends_with_labels;
+use domain_list::ToLabelIter;
 use domain_list::laws::order_laws;
-use domain_list::{Chain, ToLabelIter};
-use domain_name::{Name, RelativeName, SuffixIter};
-use domain_zone::Owner;
+use domain_name::Name;
+use domain_zone::{Owner, source_of_synthesis};
 use domain_zone_laws::find::place_of;
 use domain_zone_laws::zone::{Rrset, ZoneRecords};
 
@@ -36,84 +31,6 @@ pub(crate) fn first_rrset<'z: 'a, 'a, M: ToLabelIter<'a>>(
     first
 }
 
-/// Whether the RRset at an index is at or below a name.
-fn is_below_at<'a, M: ToLabelIter<'a>>(
-    records: &'a ZoneRecords<Owner>,
-    index: usize,
-    name: &'a M,
-) -> bool
-    ensures { IsTrue result ↔ ((index < length (records_view records.now).rrsets)
-        × ((d : RRset) → EndsWith (slice_index_or (records_view records.now).rrsets index d).owner
-        (M.labels name.now))) }
-{
-    let Some(set) = records.sets.get(index) else {
-        return false;
-    };
-    ends_with_labels(&set.owner, name)
-}
-
-/// Whether a name is in the zone, and one of the two RRsets beside a place is at or below it.
-fn is_beside<'a, M: ToLabelIter<'a>>(
-    records: &'a ZoneRecords<Owner>,
-    place: usize,
-    name: &'a M,
-) -> bool
-    ensures { IsTrue result ↔ IsBeside (records_view records.now) place (M.labels name.now) }
-{
-    if !ends_with_labels(name, &records.apex) {
-        return false;
-    }
-    if is_below_at(records, place, name) {
-        return true;
-    }
-    place > 0 && is_below_at(records, place - 1, name)
-}
-
-/// The closest encloser of a name in the zone.
-///
-/// One search by halves is for the name. Its two neighbours in canonical order then tell which names above it exist.
-fn closest_encloser<'q>(records: &ZoneRecords<Owner>, name: Name<&'q [u8]>) -> Name<&'q [u8]>
-    requires zone { IsZone (records_view records.now) }
-    requires sorted { IsSorted (records_view records.now) }
-    requires inside { EndsWith (name_labels name) (name_labels records.now.apex) }
-    ensures { IsClosestEncloser (records_view records.now) (name_labels name.entry)
-        (name_labels result) }
-{
-    order_laws();
-    let place = place_of(records, &name, 0);
-    let mut suffixes = SuffixIter::new(name);
-    while let Some(suffix) = suffixes.next() {
-        if is_beside(records, place, &suffix) {
-            return suffix;
-        }
-    }
-    unreachable!()
-}
-
-/// A wildcard: an asterisk label before a name.
-pub type Wildcard<'q> = Chain<RelativeName<&'static [u8]>, Name<&'q [u8]>>;
-
-/// Returns the source of synthesis for a name in the zone that doesn't exist: an asterisk label before its closest
-/// encloser (RFC 4592, 3.3.1).
-///
-/// The wildcard may have no records, and it may not exist.
-pub fn source_of_synthesis<'q>(records: &ZoneRecords<Owner>, name: Name<&'q [u8]>) -> Wildcard<'q>
-    requires zone { IsZone (records_view records.now) }
-    requires sorted { IsSorted (records_view records.now) }
-    requires inside { EndsWith (name_labels name) (name_labels records.now.apex) }
-    requires missing { Exists (records_view records.now) (name_labels name) → ⊥ }
-    ensures { (e : List (List ℕ))
-        × IsClosestEncloser (records_view records.now) (name_labels name.entry) e
-        × (relative_labels (left_part result) ++ name_labels (right_part result)
-        ≡ source_of_synthesis e) }
-{
-    let encloser = closest_encloser(records, name);
-    let Ok(source) = Chain::new(RelativeName::wildcard_ref(), encloser) else {
-        unreachable!();
-    };
-    source
-}
-
 /// The RRset of the lowest type of the wildcard that answers for a name.
 pub(crate) fn first_of_wildcard<'a>(
     records: &'a ZoneRecords<Owner>,
@@ -121,6 +38,7 @@ pub(crate) fn first_of_wildcard<'a>(
 ) -> &'a Rrset<Owner>
     requires zone { IsZone (records_view records.now) }
     requires sorted { IsSorted (records_view records.now) }
+    requires missing { Exists (records_view records.now) (name_labels name) → ⊥ }
     requires owns { (e : List (List ℕ))
         × IsClosestEncloser (records_view records.now) (name_labels name) e
         × OwnsRecords (records_view records.now) (source_of_synthesis e) }
@@ -128,9 +46,6 @@ pub(crate) fn first_of_wildcard<'a>(
         × IsClosestEncloser (records_view records.now) (name_labels name.entry) e
         × IsChosen (records_view records.now) (source_of_synthesis e) (set_view result.now) }
 {
-    let encloser = closest_encloser(records, name);
-    let Ok(source) = Chain::new(RelativeName::wildcard_ref(), encloser) else {
-        unreachable!();
-    };
+    let source = source_of_synthesis(records, name);
     first_rrset(records, &source)
 }

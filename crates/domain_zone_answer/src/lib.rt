@@ -13,7 +13,6 @@ mod soa;
 
 pub use addresses::AddressIter;
 pub use cname::SynthesizedCname;
-pub use encloser::{Wildcard, source_of_synthesis};
 pub use laws::response_laws;
 pub use response::{Response, respond};
 pub use section::SectionRrset;

@@ -15,8 +15,7 @@ ghost use Rattle.domain_zone_denial.specs.Views.{denial_list};
 use crate::nsec::nsec_for;
 use domain_list::comparing::eq_names;
 use domain_name::Name;
-use domain_zone::{Answer, Owner, Zone};
-use domain_zone_answer::source_of_synthesis;
+use domain_zone::{Answer, Owner, Zone, source_of_synthesis};
 use domain_zone_laws::reply::Reply;
 use domain_zone_laws::zone::Rrset;
 

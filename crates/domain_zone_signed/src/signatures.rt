@@ -8,8 +8,7 @@ ghost use Rattle.domain_zone_signed.specs.Signing.{IsSignatureSet, IsCovered, Ar
 ghost use Rattle.domain_zone_signed.specs.Views.{signature_list};
 
 use domain_name::Name;
-use domain_zone::{Owner, Zone};
-use domain_zone_answer::source_of_synthesis;
+use domain_zone::{Owner, Zone, source_of_synthesis};
 use domain_zone_laws::reply::exists;
 use domain_zone_laws::ttl::covered_type;
 use domain_zone_laws::zone::Rrset;

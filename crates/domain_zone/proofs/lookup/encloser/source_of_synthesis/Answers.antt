@@ -3,9 +3,9 @@ use Rattle.domain_list.specs.Chains.{before_root}
 use Rattle.domain_name.specs.Names.{name_labels, relative_labels, Wildcard}
 use Rattle.domain_zone.proofs.Substituting.{joined}
 use Rattle.domain_zone.specs.Records.{records_view}
-use Rattle.domain_zone_answer.proofs.Sources.{short_source}
+use Rattle.domain_zone.proofs.Sources.{short_source}
 use Rattle.domain_zone_laws.specs.Zone.{source_of_synthesis}
-use Rattle.domain_zone_answer.proofs.encloser.source_of_synthesis.Goals as goal
+use Rattle.domain_zone.proofs.lookup.encloser.source_of_synthesis.Goals as goal
 
 pub unreachable-requires : goal.unreachable-requires
 unreachable-requires c =
