@@ -345,8 +345,12 @@ DIG = (
 ).split()
 
 
+# dig of BIND 9.18.49 refuses a message with an owner that is no host name where its type wants one. Earlier ones don't.
+GOT = r"^;; Got (?:answer:|bad packet: bad owner name \(check-names\))\n"
+
+
 def texts_by_dig(wholes: dict, port: int) -> List[str]:
-    """What dig writes of each message, in its own words."""
+    """What dig writes of each message, in its own words, or nothing where it refuses it for an owner's name."""
     lines = []
     for whole in wholes.values():
         name, type_, class_ = whole.asked[0]
@@ -357,8 +361,10 @@ def texts_by_dig(wholes: dict, port: int) -> List[str]:
         run = subprocess.run(
             [*DIG, "-p", str(port), "-f", str(batch)], capture_output=True, check=True, timeout=300, env={"HOME": folder},
         )
-    _, *texts = re.split(r"^;; Got answer:\n", run.stdout.decode("ascii"), flags=re.MULTILINE)
-    return texts
+    said = run.stdout.decode("ascii")
+    _, *texts = re.split(GOT, said, flags=re.MULTILINE)
+    answered = [it.endswith("answer:\n") for it in re.findall(GOT, said, flags=re.MULTILINE)]
+    return [text if it else "" for text, it in zip(texts, answered)]
 
 
 def in_our_words(text: str) -> str:
@@ -402,7 +408,9 @@ class Wholes(unittest.TestCase):
         with Server(messages) as server:
             texts = texts_by_dig(wholes, server.port)
         self.assertEqual(len(texts), COMPARED)
-        for seed, text in enumerate(texts):
+        told = {seed: text for seed, text in enumerate(texts) if text}
+        self.assertGreater(len(told), COMPARED * 3 // 4)
+        for seed, text in told.items():
             with self.subTest(seed=seed):
                 ours = parts_of(Message(server.sent[seed]).to_text())
                 self.compare(ours, parts_of(in_our_words(text)))
