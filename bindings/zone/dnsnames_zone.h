@@ -79,6 +79,7 @@ uint32_t dnsnames_zone_load(dnsnames_zone *zone, const uint8_t *text, size_t tex
 
 /* Gives the message that answers a query: over UDP, or over TCP, from a server that takes `payload_size` octets in a
  * datagram. *length becomes its size, at most 65,535 octets.
+ * A query with the bit DO gets the records of DNSSEC that the zone has (RFC 4035, 3.1).
  *
  * NONE, NO_RESPONSE, NO_MEMORY: nothing is changed. NO_ROOM: the buffer is unchanged. */
 uint32_t dnsnames_zone_answer(dnsnames_zone *zone, uint32_t transport, uint16_t payload_size, const uint8_t *query,

@@ -1,6 +1,7 @@
-"""A second writer of responses, from RFC 1034 (4.3.2), 1035 (4.1), 2181 (9), 2308 (2.1), 2930 (4), 3225, 4035 (3.1.6),
-6604 (3), 6672 (3.2), 6891, 6895 (3.1) and 9471. The sections of each question are those of the second reader of zones;
-here aliases are followed, and the sections become octets."""
+"""A second writer of responses, from RFC 1034 (4.3.2), 1035 (4.1), 2181 (9), 2308 (2.1), 2930 (4), 3225, 4034 (3),
+4035 (2.2, 3.1, 3.1.1, 3.1.3, 3.1.4, 3.1.6), 4592 (3.3.1, 4.8), 6604 (3), 6672 (3.2), 6891, 6895 (3.1) and 9471. The
+sections of each question are those of the second reader of zones, and so is what denies for it; here aliases are
+followed, the records of DNSSEC are added where a query asks for them, and the sections become octets."""
 
 import pathlib
 import struct
@@ -8,10 +9,12 @@ import sys
 
 sys.path.insert(0, str(pathlib.Path(__file__).resolve().parents[1] / "conformance_zones"))
 import second as zones
+import second_denial as denials
 
 FORMERR, NOTIMP, REFUSED, BADVERS = 1, 4, 5, 16
 LEAST, STREAM = 512, 65535
 ALIASES = 16  # That many are followed: the library's choice.
+DO = 0x8000  # RFC 3225, 3: a bit of the TTL of an OPT record.
 
 
 def wire(labels):
@@ -25,7 +28,7 @@ def with_data(rtype, rrset, owner=None, ttl=None):
     return owner or rrset.owner, rtype, records
 
 
-zones.shown = with_data
+zones.shown = denials.shown = with_data
 
 
 class Short(Exception):
@@ -157,12 +160,19 @@ def in_domain(owner, cut):
     return not top or low[-len(top) :] == top
 
 
+def is_required(section, sections, rrset):
+    """Whether TC is set where the RRset is left out: of the additional section those that are at or below the cut (RFC
+    9471, 3.1), and no signatures (RFC 4035, 3.1.1)."""
+    owner, rtype, _ = rrset
+    return section < 2 or rtype != zones.RRSIG and in_domain(owner, sections[1][0][0])
+
+
 def fill(writer, sections, room):
-    """The octets and counts of sections, as many RRsets of each as fit, and whether a required one is left out."""
+    """The octets and counts of sections, as many RRsets of each as fit, those that are required before others, and
+    whether a required one is left out."""
     counts = [0, 0, 0]
     for section, sets in enumerate(sections):
-        cut = sections[1][0][0] if section == 2 and sections[1] else "."
-        needed = [it for it in sets if section < 2 or in_domain(it[0], cut)]
+        needed = [it for it in sets if is_required(section, sections, it)]
         for it in needed + [it for it in sets if it not in needed]:
             more = writer.copy()
             more.rrset(*it)
@@ -185,14 +195,14 @@ def with_made(section):
 
 
 def followed(zone, name, rtype):
-    """The answers of a zone to a question and to those of its chain, each with its sections (RFC 1034, 4.3.2, step 3a;
-    RFC 6672, 3.2). The last owner of an answer section is the alias, whose one record is its target. No name is asked
+    """The names of a chain of questions, each with the answer of a zone and its sections (RFC 1034, 4.3.2, step 3a; RFC
+    6672, 3.2). The last owner of an answer section is the alias, whose one record is its target. No name is asked
     about twice, and none out of the zone."""
     said, asked = [], []
     while True:
         answer, section, *rest = zone.answer(name, rtype)
         section = with_made(section)
-        said.append((answer, section, *rest))
+        said.append((name, answer, section, *rest))
         asked.append([it.lower() for it in zones.labels_of(name)])
         is_alias = answer.removeprefix("synthesized ").startswith("alias ") or answer.startswith("redirect ")
         if not is_alias or rtype in (zones.CNAME, zones.ANY) or len(asked) > ALIASES:
@@ -201,6 +211,59 @@ def followed(zone, name, rtype):
         if zone.inside(target) is None or [it.lower() for it in target] in asked:
             return said
         name = zones.text_of(target) if target else "."
+
+
+def sections_of(steps):
+    """The sections of a chain: all answers, and of the last question the rest. A record isn't repeated (RFC 2181, 5): a
+    DNAME can redirect twice."""
+    answers = []
+    for _, _, section, _, _ in steps:
+        answers += [it for it in section if it not in answers]
+    return [answers, *steps[-1][3:]]
+
+
+def holder(zone, owner):
+    """The node with the records of a name: its own if it exists, and else the source of synthesis (RFC 4592, 3.3.1), or
+    None."""
+    node = zone.top
+    for label in zone.inside(zones.labels_of(owner)):
+        if label not in node.below:
+            return node.below.get("*")
+        node = node.below[label]
+    return node
+
+
+def signatures(zone, owner, rtype, records):
+    """The RRSIG records that cover an RRset of a section, as a list of one RRset, or of none (RFC 4035, 3.1.1; RFC
+    4592, 4.8). They have the owner and the TTL that it has there (RFC 4034, 3). Data begin with the type they cover. An
+    RRSIG has none (RFC 4035, 2.2), whatever the zone has."""
+    if rtype == zones.RRSIG:
+        return []
+    node = holder(zone, owner)
+    kept = node.sets[zones.RRSIG].records if node and zones.RRSIG in node.sets else []
+    covering = [(records[0][0], data) for _, data in kept if data[:2] == struct.pack(">H", rtype)]
+    return [(owner, zones.RRSIG, covering)] if covering else []
+
+
+def signed(zone, section):
+    """A section in which each RRset has its signatures after it."""
+    return [it for rrset in section for it in (rrset, *signatures(zone, *rrset))]
+
+
+def denied(zone, steps, rtype):
+    """The RRsets that deny for the questions of a chain (RFC 4035, 3.1.3 and 3.1.4), each once."""
+    sets = {}
+    for name, *_ in steps:
+        for it in denials.denial(zone, name, rtype):
+            sets.setdefault((it[0].lower(), it[1]), it)
+    return list(sets.values())
+
+
+def with_dnssec(zone, steps, rtype, sections):
+    """The sections of a chain with what a query with DO gets: after the authority section what denies, and after each
+    RRset its signatures."""
+    answers, authority, additional = sections
+    return [signed(zone, it) for it in (answers, authority + denied(zone, steps, rtype), additional)]
 
 
 def response(zone, octets, stream, size):
@@ -220,16 +283,15 @@ def response(zone, octets, stream, size):
     if code is None:
         name, rtype, _ = query.questions[0]
         steps = followed(zone, zones.text_of(name) if name else ".", rtype)
-        answers = []
-        for _, section, _, _ in steps:
-            # A record isn't repeated (RFC 2181, 5): a DNAME can redirect twice.
-            answers += [it for it in section if it not in answers]
         # AA is of the first owner (RFC 1035, 4.1.1), the response code of the last question (RFC 6604, 3).
-        first, last = (zones.header_of(it[0]) for it in (steps[0], steps[-1]))
+        first, last = (zones.header_of(it[1]) for it in (steps[0], steps[-1]))
         aa, code = "aa=1" in first, int(last.split("rcode=")[1])
-        writer, counts, cut = fill(writer, [answers, *steps[-1][2:]], room)
+        sections = sections_of(steps)
+        if edns and edns[2] & DO:
+            sections = with_dnssec(zone, steps, rtype, sections)
+        writer, counts, cut = fill(writer, sections, room)
     if has_opt(query):
-        ttl = code >> 4 << 24 | (edns[2] & 0x8000 if edns else 0)
+        ttl = code >> 4 << 24 | (edns[2] & DO if edns else 0)
         writer.octets += b"\0" + struct.pack(">HHIH", zones.OPT, own, ttl, 0)
         counts[2] += 1
     flags = 0x8000 | query.flags & 0x7900 | aa << 10 | cut << 9 | code & 15

@@ -48,12 +48,11 @@ def queries(asked):
 
 
 def text_of(zone):
-    """The zone as a text, data as octets (RFC 3597, 5)."""
+    """The zone as a text, data as octets (RFC 3597, 5). RRSIG records of an owner can have different TTLs."""
     said = ""
     for rtype, it in zone.rrsets():
-        for data in sorted(it.spellings):
-            owner = it.spellings[data]
-            said += f"{owner} {it.ttl} IN TYPE{rtype} \\# {len(data)} {data.hex()}\n"
+        for ttl, data in it.records:
+            said += f"{it.spellings[data]} {ttl} IN TYPE{rtype} \\# {len(data)} {data.hex()}\n"
     return said
 
 

@@ -7,24 +7,24 @@
 SERVER is nsd, knotd or named; by default, each that is installed. The program is the one that `./build dnszone` makes.
 --try builds its sources without a proof instead, once for all queries, and --program takes another file. With --second
 the second writer of crates/conformance_responses answers in place of the program. --most N asks at most N questions
-about each zone of texts.py, --zones N takes only the first N zones of the conformance table, and --only takes only the
-zones with these words in their names. --write writes last-run.md beside this script; else the page is printed. What
-differs and isn't in differences.py fails. The last line is 'N passed, N failed'.
+about each zone of texts.py, and four times as many about each signed one. --zones N takes only the first N zones of
+the conformance table, and --only takes only the zones with these words in their names. --write writes last-run.md
+beside this script; else the page is printed. What differs and isn't in differences.py fails. The last line is 'N
+passed, N failed'.
 
-Needs dnspython 2.3, and nsd, knot or bind9 of Debian 12; ldns-signzone (ldnsutils) for the signed zone. It uses one
-port of loopback, 25300."""
+Needs dnspython 2.3, and nsd, knot or bind9 of Debian 12; ldns-signzone (ldnsutils) for the signed zones, which are
+left out without it. It uses one port of loopback, 25300."""
 
 import argparse
 import pathlib
 import shutil
-import subprocess
 import sys
-import tempfile
 
 import differences
 import name_servers
 import page
 import program
+import signing
 import tabled
 import texts
 from dns.rdatatype import DNAME
@@ -33,25 +33,17 @@ from zone import Zone, target_of
 HERE = pathlib.Path(__file__).resolve().parent
 
 
-def signed(text, apex):
-    """The zone, signed with a new key and NSEC, or None where ldns isn't there."""
-    if not shutil.which("ldns-signzone"):
-        return None
-    with tempfile.TemporaryDirectory(prefix="servers-") as folder:
-        how = {"cwd": folder, "check": True, "capture_output": True, "text": True}
-        pathlib.Path(folder, "zone").write_text(text)
-        key = subprocess.run(["ldns-keygen", "-a", "ECDSAP256SHA256", "-k", apex], **how).stdout.strip()
-        subprocess.run(["ldns-signzone", "-o", apex, "-f", "signed", "zone", key], **how)
-        return pathlib.Path(folder, "signed").read_text()
-
-
 def all_zones(words):
     """The zones of texts.py and of the table, and how many of the table are left out."""
     zones = []
     for name, apex, text in texts.zones():
-        text = signed(text, apex) if name == "signed" and words.only in name else text
-        if words.only in name and text is not None:
+        if words.only in name:
             zones.append(Zone(name, apex, text, lambda it: texts.questions(it, words.most)))
+    for name, apex, text, algorithms in signing.zones() if signing.can_sign() else []:
+        if words.only in name:
+            text = signing.signed(text, apex, algorithms)
+            text = signing.with_lower_minimum(text) if name == signing.HIGH_NSEC else text
+            zones.append(Zone(name, apex, text, lambda it: texts.questions(it, 4 * words.most)))
     cases, left = tabled.cases(words.zones)
     for number, it in enumerate(cases):
         if words.only in f"table {number}":

@@ -7,10 +7,10 @@ import dataclasses
 
 import dns.flags
 import dns.rdatatype
-from dns.rdatatype import A, AAAA, ANY, CNAME, DNAME, DS, NSEC, RRSIG, SOA
-from zone import PARTS, SECTIONS, WHOLE, Query, Response, response_of, target_of
+from dns.rdatatype import A, AAAA, ANY, CNAME, DNAME, DS, NSEC, RRSIG
+from zone import PARTS, SECTIONS, Query, Response, response_of, target_of
 
-ALL = "nsd knotd named"
+ALL, ALIASES = "nsd knotd named", 16
 SIGNING = {RRSIG, NSEC, DS}
 
 
@@ -35,23 +35,14 @@ class Difference:
         self.their_whole = with_lowest(self.their_whole, self.zone)
         # No RFC says what holds of RRSIGs that cover one type and have different TTLs.
         self.ours, self.our_whole = (with_lowest(it, self.zone, {RRSIG}) for it in (self.ours, self.our_whole))
-        self.is_mixed, self.signing = theirs != self.theirs, self.is_signing()
-        if self.signing:
-            self.theirs = without_signing(self.theirs, self.rtype)
+        self.is_mixed = theirs != self.theirs
+        self.is_half = self.query.form.has_do and not self.zone.is_signed and self.drop_signing()
 
-    def is_signing(self):
-        """Whether the server adds records of DNSSEC, as DO asks it to, and they are the zone's."""
-        if not self.query.form.has_do:
-            return False
-        added = records(self.theirs) - records(without_signing(self.theirs, self.rtype))
-        return bool(added) and self.zone.has(self.with_own_ttl(it) for it in added)
-
-    def with_own_ttl(self, record):
-        """The record as the zone has it: the RRSIG of a negative SOA has the SOA's lower TTL (RFC 4034, 3)."""
-        name, ttl, rtype, data = record
-        lowered = {one[1] for one in self.theirs.authority if one[2] == SOA and one[0] == name}
-        is_lowered = rtype == RRSIG and data.covers() == SOA and ttl in lowered
-        return (name, data.original_ttl, rtype, data) if is_lowered else record
+    def drop_signing(self):
+        """Takes the records of DNSSEC that weren't asked for away, and tells whether they differed."""
+        parts = self.parts()
+        self.ours, self.theirs = (without_signing(it, self.rtype) for it in (self.ours, self.theirs))
+        return self.parts() != parts
 
     def parts(self):
         return {it for it in PARTS if getattr(self.ours, it) != getattr(self.theirs, it)}
@@ -63,9 +54,11 @@ class Difference:
         return getattr(self.ours, part) - getattr(self.theirs, part)
 
     def adds(self, names):
-        """Whether the server's additional section has more, and that is addresses of the zone at these names."""
+        """Whether the server's additional section has more, and that is addresses of the zone at these names, or
+        signatures of addresses."""
         more = self.more("additional")
-        is_so = {it[0] for it in more} <= names and {it[2] for it in more} <= {A, AAAA} and self.zone.has(more)
+        types = {data.covers() if rtype == RRSIG else rtype for *_, rtype, data in more}
+        is_so = {it[0] for it in more} <= names and types <= {A, AAAA} and self.zone.has(more)
         return is_so and not self.less("additional")
 
 
@@ -99,10 +92,57 @@ def links(answer):
 
 
 def is_any(it):
-    """Other RRsets, each of them whole."""
-    sets = {(owner, rtype) for owner, _, rtype, _ in it.theirs.answer}
+    """Other RRsets, each of them whole, and with signatures or without."""
+    sets = {(owner, rtype) for owner, _, rtype, _ in it.theirs.answer if rtype != RRSIG}
     whole = frozenset().union(*(it.zone.rrset(*one) for one in sets))
-    return it.rtype == ANY and sets and whole == it.theirs.answer
+    rest = it.theirs.answer - whole
+    is_whole = sets and whole <= it.theirs.answer and {one[2] for one in rest} <= {RRSIG} and it.zone.has(rest)
+    return it.rtype == ANY and is_whole
+
+
+def names_along(it):
+    """The names of a chain of aliases, from the one that is asked for."""
+    targets, names = links(it.our_whole.answer), [it.query.name]
+    while targets.get(names[-1], names[-1]) not in names:
+        names.append(targets[names[-1]])
+    return names
+
+
+def end_of(it):
+    """The last name of a chain of aliases, or the name that is asked for."""
+    return names_along(it)[-1]
+
+
+def differs_in(it, less, more=frozenset()):
+    """Whether the server's authority section has these records in place of those."""
+    ours = it.our_whole if it.ours.tc else it.ours
+    is_alike = ours.authority - it.theirs.authority <= less and it.theirs.authority - ours.authority <= more
+    return it.query.form.has_do and is_alike
+
+
+def is_empty_wildcard(it):
+    """Whether the server leaves out what shows that an asterisk label owns nothing."""
+    source = it.zone.source(end_of(it))
+    is_empty = source in it.zone.names and source not in it.zone.owners
+    return is_empty and source.is_wild() and differs_in(it, it.zone.denying(source))
+
+
+def is_wild_nsec(it):
+    """Whether the server leaves out the NSEC that shows that a wildcard made an NSEC."""
+    end = end_of(it)
+    return it.rtype == NSEC and end not in it.zone.names and differs_in(it, it.zone.denying(end))
+
+
+def is_asterisk(it):
+    """Whether the server leaves out the NSEC for a name that doesn't exist and begins with an asterisk."""
+    names = (one for one in names_along(it) if one.is_wild() and one not in it.zone.names)
+    return any(differs_in(it, it.zone.denying(one)) for one in names)
+
+
+def is_for_target(it):
+    """Whether the server has the NSEC for the target of a DNAME in place of the one for the name below it."""
+    targets = [data.target for *_, rtype, data in it.ours.answer if rtype == DNAME]
+    return any(differs_in(it, it.zone.denying(end_of(it)), it.zone.denying(one)) for one in targets)
 
 
 def is_hidden_any(it):
@@ -133,6 +173,11 @@ def is_second_turn(it):
     return is_redirected and (is_longer or it.our_whole.rcode == "YXDOMAIN")
 
 
+def is_longer_chain(it):
+    """Whether the server follows more aliases than the program."""
+    return len(links(it.our_whole.answer)) > ALIASES and it.theirs.answer > it.our_whole.answer
+
+
 def is_any_past_dname(it):
     """Whether the server goes on after the CNAME that a DNAME makes."""
     is_redirected = DNAME in {rtype for *_, rtype, _ in it.ours.answer}
@@ -141,12 +186,12 @@ def is_any_past_dname(it):
 
 def exceeds(response, form):
     """Whether the response, with an OPT record where there is one, is longer than may be."""
-    return response.size + 11 * (form.payload > 0) > form.limit
+    return response.size + 11 * (form.payload > 0 and not response.opt) > form.limit
 
 
 def is_cut_twice(it):
     is_cut = it.ours.tc and it.theirs.tc and exceeds(it.our_whole, it.query.form)
-    is_known = it.theirs.rcode in ("NOERROR", it.ours.rcode, it.our_whole.rcode)
+    is_known = it.theirs.rcode in ("NOERROR", it.ours.rcode, it.our_whole.rcode, it.their_whole.rcode)
     return is_cut and is_known and it.zone.has(records(it.theirs) - records(it.their_whole))
 
 
@@ -164,7 +209,7 @@ def is_cut_here(it):
 
 def lacks_room(it):
     """Whether both leave out addresses of their whole responses, with TC clear."""
-    is_long = exceeds(it.our_whole, it.query.form) or exceeds(it.their_whole, it.query.form) or it.signing
+    is_long = exceeds(it.our_whole, it.query.form) or exceeds(it.their_whole, it.query.form)
     ours, theirs = it.our_whole.additional >= it.ours.additional, it.their_whole.additional >= it.theirs.additional
     return is_long and not it.ours.tc and not it.theirs.tc and ours and theirs
 
@@ -189,11 +234,13 @@ def explains(it):
 def is_one_cover(it):
     """Whether the server answers with the RRSIGs that cover one type, each with the TTL of that RRset or the original
     one in its data. Those of the program must be the zone's."""
-    types = {one[3].covers() for one in it.theirs.answer}
-    ours = {(name, data): ttl for name, ttl, _, data in it.ours.answer if data.covers() in types}
-    theirs = {(name, data): ttl for name, ttl, _, data in it.theirs.answer}
-    is_same = ours.keys() == theirs.keys() and all(theirs[one] in (ours[one], one[1].original_ttl) for one in ours)
-    return it.rtype == RRSIG and len(types) == 1 and is_same and it.zone.has(it.ours.answer)
+    end, answer = end_of(it), it.our_whole.answer if it.ours.tc else it.ours.answer
+    ours, theirs = ({one for one in said if one[0] == end and one[2] == RRSIG} for said in (answer, it.theirs.answer))
+    types = {data.covers() for *_, data in theirs}
+    ttls = {data: ttl for _, ttl, _, data in ours if data.covers() in types}
+    is_same = ttls.keys() == {one[3] for one in theirs} and answer - ours == it.theirs.answer - theirs
+    is_same = is_same and all(ttl in (ttls[data], data.original_ttl) for _, ttl, _, data in theirs)
+    return it.rtype == RRSIG and len(types) == 1 and is_same and it.zone.has(ours)
 
 
 # A class of differences: the servers, the parts of a response, a test of the difference, and the reason.
@@ -235,7 +282,7 @@ CLASSES = [
     ),
     (
         "knotd",
-        "answer",
+        "tc answer",
         is_one_cover,
         "The RRSIGs of an owner belong to the RRsets that they cover (RFC 4034, 3). Knot DNS answers a question for "
         "RRSIG with those of one RRset, `dnszone` and the others with all. Where the TTLs of an RRset differ, it takes "
@@ -250,8 +297,8 @@ CLASSES = [
     ),
     (
         "named",
-        "header answer authority additional",
-        lambda it: it.rtype == NSEC and not it.ours.aa and it.zone.has(it.theirs.answer),
+        "header tc answer authority additional",
+        lambda it: it.rtype == NSEC and not it.ours.aa and it.theirs.answer and it.zone.has(it.theirs.answer),
         "A question for the NSEC of a cut gets a referral: only DS is excepted (RFC 4035, 3.1.4.1). BIND answers it "
         "with the NSEC that the zone has there.",
     ),
@@ -261,6 +308,35 @@ CLASSES = [
         is_hidden_nsec,
         "A CNAME is the answer to a question for any other type (RFC 1034, 4.3.2, step 3a). These servers answer a "
         "question for NSEC, which may be beside a CNAME (RFC 4035, 2.5), with no data.",
+    ),
+    (
+        "knotd named",
+        "tc authority",
+        is_empty_wildcard,
+        "A source of synthesis that owns no records, since it is only above others, gives no data (RFC 4592, 2.2.2 and "
+        "3.3.1), and the response must have the NSEC that shows that nothing is there (RFC 4035, 3.1.3.4). `dnszone` "
+        "and NSD have it, Knot DNS and BIND the one that covers the name alone.",
+    ),
+    (
+        "knotd",
+        "authority",
+        is_wild_nsec,
+        "A wildcard makes the NSEC that a question asks for (RFC 4592, 4.7), and the response must have the NSEC that "
+        "covers the name, too (RFC 4035, 3.1.3.3). Knot DNS leaves it out.",
+    ),
+    (
+        "knotd",
+        "authority",
+        is_asterisk,
+        "A name with an asterisk label is no special one in a question (RFC 4592, 2.3): where a wildcard makes its "
+        "records, the response must have the NSEC that covers it (RFC 4035, 3.1.3.3). Knot DNS leaves it out.",
+    ),
+    (
+        "nsd",
+        "authority",
+        is_for_target,
+        "Where a DNAME leads to a name that doesn't exist, the response must have the NSEC that covers this name (RFC "
+        "4035, 3.1.3). NSD has the one at or before the target of the DNAME in its place.",
     ),
     (
         "named",
@@ -275,6 +351,12 @@ CLASSES = [
         is_long_chain,
         "A chain of CNAMEs should be followed (RFC 1034, 3.6.2). These servers stop after some of them, BIND with "
         "SERVFAIL where nothing but the end is missing, and the client asks for the rest. `dnszone` follows 16.",
+    ),
+    (
+        "nsd",
+        "rcode tc answer authority additional",
+        is_longer_chain,
+        "`dnszone` follows 16 CNAMEs of a chain, and the client asks for the rest. NSD follows more.",
     ),
     (
         "nsd",
@@ -328,8 +410,8 @@ CLASSES = [
         ALL,
         "rcode tc answer authority additional",
         is_cut_there,
-        "The server answers a chain of aliases in one message, which a datagram has no room for, so TC is set (RFC "
-        "1035, 4.2.1). `dnszone` answers each question in a message of its own.",
+        "The server's response has more, all RRsets for ANY or more aliases, and a datagram has no room for them, so "
+        "TC is set (RFC 1035, 4.2.1). That of `dnszone` fits.",
     ),
     (
         ALL,
@@ -346,16 +428,16 @@ CLASSES = [
         "(RFC 2181, 9). Which of them is the server's choice.",
     ),
 ]
-SIGNED = (
-    "With DO set, a security-aware server adds RRSIG, NSEC and DS records (RFC 4035, 3.1). `dnszone` adds none "
-    "([domain_zone_response](../../crates/domain_zone_response/README.md#what-no-contract-says))."
+HALF = (
+    "With DO set, `dnszone` adds the RRSIG, NSEC and DS records that a zone has (RFC 4035, 3.1), whatever it lacks of "
+    "a signed one (RFC 4035, 2). The servers add them, or some of them, where they take the zone for a signed one."
 )
 MIXED = (
     "Different TTLs in an RRset are an error, and the lowest should hold (RFC 2181, 5.2). `dnszone` sends the lowest, "
     "the servers others of those in the text."
 )
 KEY_BESIDE_CNAME = "A KEY may be beside a CNAME (RFC 4035, 2.5). NSD and Knot DNS load no zone with one."
-REASONS = [*(why for *_, why in CLASSES), SIGNED, MIXED, KEY_BESIDE_CNAME]
+REASONS = [*(why for *_, why in CLASSES), HALF, MIXED, KEY_BESIDE_CNAME]
 
 
 def classes_of(it):
@@ -365,7 +447,7 @@ def classes_of(it):
         if it.server in servers.split() and rest & {*parts.split()} and test(it):
             rest -= {*parts.split()}
             claimed.append(why)
-    return claimed + [SIGNED] * it.signing + [MIXED] * it.is_mixed, rest
+    return claimed + [HALF] * it.is_half + [MIXED] * it.is_mixed, rest
 
 
 def shown(section):
@@ -375,7 +457,7 @@ def shown(section):
 
 
 class Trial:
-    """The counts of each server, over all zones."""
+    """The counts of each server, over the zones that are signed, and over the others."""
 
     def __init__(self):
         self.counts = collections.defaultdict(collections.Counter)
@@ -383,30 +465,30 @@ class Trial:
 
     def refuse(self, server, zone, is_known):
         """A zone that the server doesn't load."""
-        self.counts[server]["zones listed" if is_known else "zones unlisted"] += 1
+        self.counts[server, zone.is_signed]["zones listed" if is_known else "zones unlisted"] += 1
         if is_known:
-            self.note(server, KEY_BESIDE_CNAME, f"{server}, {zone.name}")
+            self.note(server, zone, KEY_BESIDE_CNAME, f"{server}, {zone.name}")
         else:
             self.unlisted.append(f"{server}, {zone.name}: not loaded: {zone.text!r}")
 
-    def note(self, server, why, example):
-        self.counts[server][why] += 1
+    def note(self, server, zone, why, example):
+        self.counts[server, zone.is_signed][why] += 1
         self.examples.setdefault(why, example)
 
     def take(self, server, zone, octets):
         """The responses of a server to the queries of a zone."""
         theirs = {it: response_of(said) for it, said in octets.items()}
         for it in zone.queries:
-            whole = zone.by_question[WHOLE, it.name, it.rtype]
+            whole = zone.whole(it)
             self.compare(Difference(server, zone, it, zone.ours[it], theirs[it], zone.ours[whole], theirs[whole]))
 
     def compare(self, it):
         claimed, rest = classes_of(it)
-        self.counts[it.server]["unlisted" if rest else "listed" if claimed else "equal"] += 1
+        self.counts[it.server, it.zone.is_signed]["unlisted" if rest else "listed" if claimed else "equal"] += 1
         question = f"{it.query.name} {dns.rdatatype.to_text(it.rtype)}, {it.query.form.title}"
         example = f"{it.server}, {it.zone.name}: {question}"
         for why in claimed:
-            self.note(it.server, why, example)
+            self.note(it.server, it.zone, why, example)
         for part in sorted(rest):
             said = [shown(getattr(one, part, one)) for one in (it.ours, it.theirs)]
             self.unlisted.append(f"{example}: {part}: here '{said[0]}', there '{said[1]}'")

@@ -21,7 +21,7 @@ import dns.query
 import dns.rcode
 from dns.rdatatype import SOA
 
-PORT, TRIES, LOADS, ASKS, AT_ONCE = 25300, 3, 60.0, 10.0, 100
+PORT, TRIES, LOADS, ASKS, AT_ONCE = 25300, 3, 60.0, 10.0, 50
 SIZE = 1232
 
 NSD = """server:
@@ -173,20 +173,34 @@ def responses(name, zones):
 
 def answered(zone):
     """The octets of each response."""
-    said = by_stream([it for it in zone.queries if it.form.is_stream])
-    return said | {it: by_datagram(it.octets) for it in zone.queries if not it.form.is_stream}
+    streamed = [it for it in zone.queries if it.form.is_stream]
+    return by_stream(streamed) | by_datagram([it for it in zone.queries if not it.form.is_stream])
 
 
-def by_datagram(query):
-    """The response to a datagram. One that is lost is sent again."""
+def by_datagram(queries):
+    """The responses to datagrams, several of them sent before the first response is read. What is lost is sent
+    again."""
+    said = {}
     for _ in range(TRIES):
-        with socket.socket(socket.AF_INET, socket.SOCK_DGRAM) as it:
-            it.settimeout(ASKS)
-            it.connect(("127.0.0.1", PORT))
-            it.send(query)
-            with contextlib.suppress(OSError):
-                return it.recv(65535)
-    raise TimeoutError(f"no response to {query.hex()}")
+        rest = [it for it in queries if it not in said]
+        for at in range(0, len(rest), AT_ONCE):
+            said |= some_by_datagram({it.octets[:2]: it for it in rest[at : at + AT_ONCE]})
+    if len(said) < len(queries):
+        raise TimeoutError(f"{len(queries) - len(said)} queries without a response")
+    return said
+
+
+def some_by_datagram(queries):
+    said = {}
+    with socket.socket(socket.AF_INET, socket.SOCK_DGRAM) as it, contextlib.suppress(OSError):
+        it.settimeout(ASKS)
+        it.connect(("127.0.0.1", PORT))
+        for one in queries.values():
+            it.send(one.octets)
+        while len(said) < len(queries):
+            octets = it.recv(65535)
+            said[queries[octets[:2]]] = octets
+    return said
 
 
 def by_stream(queries):

@@ -54,7 +54,7 @@ def jobs_of(zone):
         queries = [it for it in zone.queries if it.form.is_stream == bool(word)]
         if queries:
             yield ["answer", *word, *(it.octets.hex() for it in queries)], queries
-    for name, rtype in zone.asked if zone.is_text else []:
+    for name, rtype in zone.asked if zone.is_text and not zone.is_signed else []:
         yield ["ask", name.to_text(), dns.rdatatype.to_text(rtype)], (name, rtype)
 
 

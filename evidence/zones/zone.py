@@ -11,7 +11,7 @@ import dns.rcode
 import dns.rdataclass
 import dns.tokenizer
 import dns.zonefile
-from dns.rdatatype import NS, OPT
+from dns.rdatatype import DNSKEY, NS, NSEC, OPT, RRSIG
 from name_servers import SIZE
 
 RD, CD, DO, LEAST, MOST = 0x0100, 0x0010, 0x8000, 512, 65535
@@ -50,6 +50,13 @@ FORMS = [
     Form("a datagram, with EDNS of 800 octets and DO", False, RD, 800, True),
 ]
 WHOLE = FORMS[0]
+SIGNED_WHOLE = Form("a stream, with EDNS and DO", True, 0, 1232, True)
+SIGNED_FORMS = [
+    WHOLE,
+    SIGNED_WHOLE,
+    Form("a datagram, with EDNS of 1,232 octets, DO, and letters of the other case", False, 0, 1232, True, True),
+    FORMS[3],
+]
 
 
 @dataclasses.dataclass(frozen=True)
@@ -126,10 +133,17 @@ class Zone:
         for it in self.records:
             self.owners.setdefault(it[0], set()).add(it)
         self.asked = list(dict.fromkeys(questions(self) if callable(questions) else questions))
-        numbered = ((form, *it) for form in FORMS for it in self.asked)
+        self.is_signed = {DNSKEY, NSEC, RRSIG} <= {it[2] for it in self.owners.get(self.apex, ())}
+        self.forms = SIGNED_FORMS if self.is_signed else FORMS
+        numbered = ((form, *it) for form in self.forms for it in self.asked)
         self.by_question = {it: it[0].query(number % 65536, *it[1:]) for number, it in enumerate(numbered)}
         self.queries = [*self.by_question.values()]
         self.ours = {}
+
+    def whole(self, query):
+        """The query of the same question over a stream."""
+        has_do = query.form.has_do and self.is_signed
+        return self.by_question[SIGNED_WHOLE if has_do else WHOLE, query.name, query.rtype]
 
     def names_from(self, name):
         """The name and those above it in the zone."""
@@ -169,6 +183,11 @@ class Zone:
 
     def rrset(self, name, rtype):
         return frozenset(it for it in self.owned(name) if it[2] == rtype)
+
+    def denying(self, name):
+        """The NSEC at a name or before it in canonical order (RFC 4034, 6.1), with its signatures."""
+        last = max((it for it in self.owners if it <= name and self.rrset(it, NSEC)), default=self.apex)
+        return frozenset(it for it in self.owners[last] if NSEC in (it[2], it[3].covers()))
 
     def has(self, records):
         """Whether the zone has each of these records, or a wildcard in it makes them."""

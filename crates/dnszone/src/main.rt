@@ -31,7 +31,7 @@ use std::io::{Read, Write};
 use std::process::ExitCode;
 
 const USAGE: &str =
-    "usage: dnszone check | dnszone ask NAME TYPE | dnszone answer [--stream] QUERY..";
+    "usage: dnszone check | dnszone ask [--dnssec] NAME TYPE | dnszone answer [--stream] QUERY..";
 
 struct Zones;
 
@@ -95,8 +95,8 @@ fn put_zone(alloc: Global, zone: &Zone, out: &mut Vec<u8>) -> Result<(), AllocEr
 enum Asked {
     /// The records of the zone.
     Records,
-    /// The response to a question for records of a type at a name.
-    Response(Owner, Rtype),
+    /// The response to a question for records of a type at a name, with records of DNSSEC or without them.
+    Response(Owner, Rtype, bool),
     /// The messages that answer these queries.
     Messages(Transport, Vec<Vec<u8>>),
 }
@@ -117,20 +117,24 @@ fn asked_of(alloc: Global, transport: Transport, queries: &[&str]) -> Result<Ask
     Ok(Asked::Messages(transport, octets))
 }
 
+/// Returns what a question asks for.
+fn response_to(alloc: Global, name: &str, rtype: &str, dnssec_ok: bool) -> Result<Asked, Failure> {
+    let Some(rtype) = rtype_from_text(rtype) else {
+        return Err(Failure::Usage);
+    };
+    match Name::vec_from_str(alloc, name) {
+        Ok(name) => Ok(Asked::Response(name, rtype, dnssec_ok)),
+        Err(FromStrError::Presentation(_)) => Err(Failure::Usage),
+        Err(FromStrError::ShortBuf) => Err(Failure::Memory),
+    }
+}
+
 /// Returns what the words ask for.
 fn asked_by(alloc: Global, words: &[&str]) -> Result<Asked, Failure> {
     match words {
         ["check"] => Ok(Asked::Records),
-        ["ask", name, rtype] => {
-            let Some(rtype) = rtype_from_text(rtype) else {
-                return Err(Failure::Usage);
-            };
-            match Name::vec_from_str(alloc, name) {
-                Ok(name) => Ok(Asked::Response(name, rtype)),
-                Err(FromStrError::Presentation(_)) => Err(Failure::Usage),
-                Err(FromStrError::ShortBuf) => Err(Failure::Memory),
-            }
-        }
+        ["ask", "--dnssec", name, rtype] => response_to(alloc, name, rtype, true),
+        ["ask", name, rtype] => response_to(alloc, name, rtype, false),
         ["answer", "--stream", queries @ ..] => asked_of(alloc, Transport::Stream, queries),
         ["answer", queries @ ..] => asked_of(alloc, Transport::Datagram, queries),
         _ => Err(Failure::Usage),
@@ -149,9 +153,9 @@ fn shown<R: Read>(alloc: Global, words: &[&str], input: &mut R) -> Result<Vec<u8
     let mut out = Vec::new(alloc);
     match &asked {
         Asked::Records => put_zone(alloc, &zone, &mut out)?,
-        Asked::Response(name, rtype) => {
+        Asked::Response(name, rtype, dnssec_ok) => {
             let name = name.for_slice();
-            put_response(alloc, &zone, &name, *rtype, &mut out)?;
+            put_response(alloc, &zone, &name, *rtype, *dnssec_ok, &mut out)?;
         }
         Asked::Messages(transport, queries) => {
             for query in queries.as_slice() {

@@ -8,7 +8,9 @@ use domain_rdata::Rtype;
 use domain_traits::ToName;
 use domain_zone::Zone;
 use domain_zone_answer::{SectionRrset, SynthesizedCname, respond};
-use domain_zone_chain::{AnswerRrset, ChainResponse, follow, names_of, respond_along};
+use domain_zone_chain::{AnswerRrset, follow, names_of, respond_along};
+use domain_zone_laws::ttl::covered_type;
+use domain_zone_signed::{Questions, ResponseRrset, Signatures, SignedResponse, add_dnssec};
 use std::alloc::{AllocError, Global};
 
 /// Appends the records of an RRset in a section.
@@ -88,32 +90,45 @@ fn put_question(
     Ok(())
 }
 
-/// Appends a section after its heading, if it has records.
-fn put_section(
+/// Appends the RRSIG records that cover an RRset.
+fn put_signatures(
     alloc: Global,
-    heading: &str,
-    section: &[u8],
+    class: Class,
+    signatures: Signatures<'_>,
     out: &mut Vec<u8>,
 ) -> Result<(), AllocError> {
-    if section.is_empty() {
-        return Ok(());
+    for octets in signatures.rdata() {
+        if covered_type(octets.as_slice()) != signatures.covered() {
+            continue;
+        }
+        let front = Front {
+            owner: signatures.owner(),
+            ttl: signatures.ttl(),
+            class,
+            rtype: 46,
+        };
+        put_record(alloc, front, octets.as_slice(), out)?;
     }
-    put(alloc, heading, out)?;
-    out.extend_from_slice(section)?;
     Ok(())
 }
 
-/// Appends the RRsets of an answer section.
-fn put_answers(
+/// Appends a section after its heading, if it has records.
+fn put_section(
     alloc: Global,
     class: Class,
-    answers: &[AnswerRrset<'_>],
+    heading: &str,
+    sets: &[ResponseRrset<'_>],
     out: &mut Vec<u8>,
 ) -> Result<(), AllocError> {
-    for answer in answers {
-        match answer {
-            AnswerRrset::Zones(set) => put_set(alloc, class, *set, out)?,
-            AnswerRrset::Made(cname) => put_cname(alloc, class, *cname, out)?,
+    if sets.is_empty() {
+        return Ok(());
+    }
+    put(alloc, heading, out)?;
+    for set in sets {
+        match set {
+            ResponseRrset::Rrset(AnswerRrset::Zones(set)) => put_set(alloc, class, *set, out)?,
+            ResponseRrset::Rrset(AnswerRrset::Made(cname)) => put_cname(alloc, class, *cname, out)?,
+            ResponseRrset::Signatures(it) => put_signatures(alloc, class, *it, out)?,
         }
     }
     Ok(())
@@ -123,30 +138,40 @@ fn put_answers(
 fn put_sections(
     alloc: Global,
     class: Class,
-    response: &ChainResponse<'_>,
+    response: &SignedResponse<'_>,
     out: &mut Vec<u8>,
 ) -> Result<(), AllocError> {
-    let mut section = Vec::new(alloc);
-    put_answers(alloc, class, response.answers(), &mut section)?;
-    put_section(alloc, ";; ANSWER SECTION:\n", section.as_slice(), out)?;
-    section.clear();
-    if let Some(set) = response.authority() {
-        put_set(alloc, class, set, &mut section)?;
-    }
-    put_section(alloc, ";; AUTHORITY SECTION:\n", section.as_slice(), out)?;
-    section.clear();
-    for set in response.additional() {
-        put_set(alloc, class, set, &mut section)?;
-    }
-    put_section(alloc, ";; ADDITIONAL SECTION:\n", section.as_slice(), out)
+    put_section(
+        alloc,
+        class,
+        ";; ANSWER SECTION:\n",
+        response.answers(),
+        out,
+    )?;
+    put_section(
+        alloc,
+        class,
+        ";; AUTHORITY SECTION:\n",
+        response.authority(),
+        out,
+    )?;
+    put_section(
+        alloc,
+        class,
+        ";; ADDITIONAL SECTION:\n",
+        response.additional(),
+        out,
+    )
 }
 
-/// Appends the response of a zone to a question and the questions of its chain, section by section.
+/// Appends the response of a zone to a question and the questions of its chain, section by section, with records of
+/// DNSSEC if they are asked for.
 pub fn put_response(
     alloc: Global,
     zone: &Zone,
     name: &Name<&[u8]>,
     rtype: Rtype,
+    dnssec_ok: bool,
     out: &mut Vec<u8>,
 ) -> Result<(), AllocError> {
     let number = rtype.to_int();
@@ -154,7 +179,13 @@ pub fn put_response(
     let is_authoritative = first.is_authoritative();
     let names = follow(alloc, zone, name, number, first.outcome())?;
     let views = names_of(alloc, names.as_slice())?;
-    let response = respond_along(alloc, zone, number, first, views.as_slice())?;
+    let chain = respond_along(alloc, zone, number, first, views.as_slice())?;
+    let questions = Questions {
+        name,
+        rtype: number,
+        names: views.as_slice(),
+    };
+    let response = add_dnssec(alloc, zone, questions, chain, dnssec_ok)?;
     put_header(alloc, response.rcode(), is_authoritative, out)?;
     put_question(alloc, zone.class(), *name, rtype, out)?;
     put_sections(alloc, zone.class(), &response, out)

@@ -9,4 +9,5 @@ pub mod Leading
 pub mod Leaves
 pub mod Neighbours
 pub mod Owned
+pub mod Sources
 pub mod Substituting

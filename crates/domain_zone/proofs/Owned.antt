@@ -3,10 +3,9 @@ use Rattle.std.proofs.Common.{◌≡◌, [], ℕ, ◌+◌, ◌-◌, ◌<◌, ◌
 use Rattle.std.specs.List.{All, Contains}
 use Rattle.std.proofs.lemmas.List.{take-map, drop-map}
 use Rattle.std.proofs.lemmas.List.Edits.{get_or-between, length-between}
-use Rattle.std.specs.declared.cmp.Ordering.TheVariants.{Less, Equal}
 use Rattle.std.proofs.lemmas.Bool.Decides.{leb_tells}
 use Rattle.domain_list.specs.Ancestors.{OrderDecidesEquality}
-use Rattle.domain_list.specs.Order.{canonical_order, SameLabels}
+use Rattle.domain_list.specs.Order.{SameLabels}
 use Rattle.domain_zone.specs.Kept.{OwnedBy}
 use Rattle.domain_zone.proofs.Good.{small_type}
 use Rattle.domain_zone.proofs.Had.{less_equal}

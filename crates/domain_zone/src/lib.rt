@@ -16,5 +16,5 @@ pub use building::{BuildError, InsertError, ZoneBuilder};
 pub use checking::find_fault;
 pub use fault::{RrsetFault, ZoneFault};
 pub use kept::Zone;
-pub use lookup::{Answer, Substitution};
+pub use lookup::{Answer, Substitution, Wildcard, source_of_synthesis};
 pub use names::Owner;

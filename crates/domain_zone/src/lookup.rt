@@ -22,6 +22,7 @@ use domain_name::Name;
 use domain_zone_laws::find::place_of;
 use domain_zone_laws::reply::reply_at;
 use domain_zone_laws::zone::ZoneRecords;
+pub use encloser::{Wildcard, source_of_synthesis};
 pub use outcome::{Answer, Substitution};
 
 /// What the records of a zone answer.

@@ -1,25 +1,16 @@
 -- The wildcard that answers for a name.
-use Rattle.std.proofs.Common.{◌≡◌, ℕ, List, [], ◌∷◌, refl, sym, ap, subst}
-use Rattle.std.proofs.lemmas.List.Elements.{All-contains}
+use Rattle.std.proofs.Common.{◌≡◌, ℕ, List, [], ◌∷◌, refl, ap, subst}
 use Rattle.domain_label.specs.Lowercase.{lowercase}
-use Rattle.domain_label.specs.Wire.{IsAbsoluteName}
 use Rattle.domain_list.specs.Ends.{EndsWith}
-use Rattle.domain_zone_laws.proofs.Ending.{ends_after, same_ends, same_then}
+use Rattle.domain_zone_laws.proofs.Ending.{ends_after}
 use Rattle.domain_zone_laws.proofs.Nodes.{one_encloser, owns_same}
 use Rattle.domain_zone_laws.specs.Answers.{Reply, records, any_types, alias, synthesized, Answers, Replies}
 use Rattle.domain_zone_answer.specs.Sections.{owned_by, IsChosen, IsZoneAnswer}
-use Rattle.domain_zone_laws.specs.Zone.{Zone, RRset, IsZone, Exists, IsClosestEncloser, OwnsRecords, source_of_synthesis}
+use Rattle.domain_zone_laws.specs.Zone.{Zone, RRset, IsClosestEncloser, OwnsRecords, source_of_synthesis}
 
 -- a name with a closest encloser is in the zone
 pub inside : (z : Zone) (q e : List (List ℕ)) → IsClosestEncloser z q e → EndsWith q z.apex
 inside z q e h = ends_after q e z.apex h.1 h.0.0
-
--- what owns records exists
-pub exists_owner : (z : Zone) → IsZone z → (n : List (List ℕ)) → OwnsRecords z n → Exists z n
-exists_owner z w n h =
-    let s = h.0 in
-    let within = (All-contains (λ (r : RRset). IsAbsoluteName r.owner × EndsWith r.owner z.apex) z.rrsets s w.names h.1).1 in
-    (same_then n s.owner z.apex (sym h.2) within, (s, h.1, same_ends s.owner n h.2))
 
 -- the source of synthesis is that of each closest encloser
 pub owns_source : (z : Zone) (q e f : List (List ℕ)) → IsClosestEncloser z q e → IsClosestEncloser z q f → OwnsRecords z (source_of_synthesis e) → OwnsRecords z (source_of_synthesis f)

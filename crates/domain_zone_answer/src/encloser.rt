@@ -1,19 +1,17 @@
 //! The RRsets of a name, and of the wildcard that answers for one.
-ghost use Rattle.std.specs.Prelude.{◌≡◌, ℕ, List};
-ghost use Rattle.domain_list.specs.Ends.{EndsWith};
+ghost use Rattle.std.specs.Prelude.{ℕ, List};
 ghost use Rattle.domain_name.specs.Names.{name_labels};
 ghost use Rattle.domain_zone.specs.Records.{records_view, set_view};
 ghost use Rattle.domain_zone_answer.specs.Sections.{IsChosen};
 ghost use Rattle.domain_zone_laws.specs.Sorted.{IsSorted};
-ghost use Rattle.domain_zone_laws.specs.Zone.{IsZone, IsClosestEncloser, OwnsRecords};
+ghost use Rattle.domain_zone_laws.specs.Zone.{IsZone, Exists, IsClosestEncloser, OwnsRecords};
 ghost use Rattle.domain_zone_laws.specs.Zone.{source_of_synthesis};
 
+use domain_list::ToLabelIter;
 use domain_list::laws::order_laws;
-use domain_list::{Chain, ToLabelIter};
-use domain_name::{Name, RelativeName, SuffixIter};
-use domain_zone::Owner;
+use domain_name::Name;
+use domain_zone::{Owner, source_of_synthesis};
 use domain_zone_laws::find::place_of;
-use domain_zone_laws::reply::exists;
 use domain_zone_laws::zone::{Rrset, ZoneRecords};
 
 /// The RRset of the lowest type that a name owns.
@@ -33,23 +31,6 @@ pub(crate) fn first_rrset<'z: 'a, 'a, M: ToLabelIter<'a>>(
     first
 }
 
-/// The closest encloser of a name in the zone.
-fn closest_encloser<'q>(records: &ZoneRecords<Owner>, name: Name<&'q [u8]>) -> Name<&'q [u8]>
-    requires zone { IsZone (records_view records.now) }
-    requires sorted { IsSorted (records_view records.now) }
-    requires inside { EndsWith (name_labels name) (name_labels records.now.apex) }
-    ensures { IsClosestEncloser (records_view records.now) (name_labels name.entry)
-        (name_labels result) }
-{
-    let mut suffixes = SuffixIter::new(name);
-    while let Some(suffix) = suffixes.next() {
-        if exists(records, &suffix) {
-            return suffix;
-        }
-    }
-    unreachable!()
-}
-
 /// The RRset of the lowest type of the wildcard that answers for a name.
 pub(crate) fn first_of_wildcard<'a>(
     records: &'a ZoneRecords<Owner>,
@@ -57,6 +38,7 @@ pub(crate) fn first_of_wildcard<'a>(
 ) -> &'a Rrset<Owner>
     requires zone { IsZone (records_view records.now) }
     requires sorted { IsSorted (records_view records.now) }
+    requires missing { Exists (records_view records.now) (name_labels name) → ⊥ }
     requires owns { (e : List (List ℕ))
         × IsClosestEncloser (records_view records.now) (name_labels name) e
         × OwnsRecords (records_view records.now) (source_of_synthesis e) }
@@ -64,9 +46,6 @@ pub(crate) fn first_of_wildcard<'a>(
         × IsClosestEncloser (records_view records.now) (name_labels name.entry) e
         × IsChosen (records_view records.now) (source_of_synthesis e) (set_view result.now) }
 {
-    let encloser = closest_encloser(records, name);
-    let Ok(source) = Chain::new(RelativeName::wildcard_ref(), encloser) else {
-        unreachable!();
-    };
+    let source = source_of_synthesis(records, name);
     first_rrset(records, &source)
 }

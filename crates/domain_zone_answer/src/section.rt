@@ -24,7 +24,7 @@ impl<'a> SectionRrset<'a> {
     ghost use Rattle.domain_zone_laws.specs.Zone.{record_ttl};
 
     /// The RRset unchanged.
-    pub(crate) fn new(set: &'a Rrset<Owner>) -> SectionRrset<'a>
+    pub fn new(set: &'a Rrset<Owner>) -> SectionRrset<'a>
         ensures { section_view result ≡ set_view set.now }
     {
         SectionRrset::with_ttl(set, set.ttl)

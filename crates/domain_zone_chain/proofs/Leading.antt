@@ -1,5 +1,5 @@
 -- A chain, as far as it was followed.
-use Rattle.std.proofs.Common.{◌≡◌, ℕ, ◌+◌, ◌<◌, ◌≤◌, List, [], ◌∷◌, ◌++◌, map, length, refl, sym, ap, subst, ◌∙◌, append_assoc, append-nil, true≢false, arith, inl}
+use Rattle.std.proofs.Common.{◌≡◌, ℕ, ◌<◌, ◌≤◌, List, [], ◌∷◌, ◌++◌, map, length, refl, sym, ap, subst, ◌∙◌, append_assoc, append-nil, true≢false, arith, inl}
 use Rattle.std.specs.Prelude.{◌↔◌, Bool, IsTrue, IsFalse, Option, Some, None, Result, Ok, Err, IfOk}
 use Rattle.std.proofs.lemmas.List.{map-append}
 use Rattle.domain_list.specs.Ends.{EndsWith}

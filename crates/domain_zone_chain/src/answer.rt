@@ -36,4 +36,13 @@ impl<'a> AnswerRrset<'a> {
             AnswerRrset::Made(_) => 5,
         }
     }
+    /// Returns the TTL of the records, in seconds. RRSIG records of the zone have the TTLs that `record_ttl` returns.
+    pub fn ttl(&self) -> u32
+        ensures { result ≡ (answer_view self.now).ttl }
+    {
+        match self {
+            AnswerRrset::Zones(set) => set.ttl(),
+            AnswerRrset::Made(cname) => cname.ttl(),
+        }
+    }
 }

@@ -10,4 +10,4 @@ mod target;
 pub use answer::AnswerRrset;
 pub use laws::{alias_rows, chain_laws};
 pub use names::{ALIAS_LIMIT, follow, names_of};
-pub use response::{ChainResponse, respond_along};
+pub use response::{ChainResponse, push_new, respond_along};

@@ -86,8 +86,11 @@ fn is_new(answers: &[AnswerRrset<'_>], set: &AnswerRrset<'_>) -> bool
     true
 }
 
-/// Pushes an RRset, unless one of its owner and its type is there.
-fn push_new<'a>(answers: &mut Vec<AnswerRrset<'a>>, set: AnswerRrset<'a>) -> Result<(), AllocError>
+/// Pushes an RRset, unless one of its owner and its type is there (RFC 2181, 5).
+pub fn push_new<'a>(
+    answers: &mut Vec<AnswerRrset<'a>>,
+    set: AnswerRrset<'a>,
+) -> Result<(), AllocError>
     ensures { OnOk result (answer_views answers.new.items
         ≡ with_rrset (answer_views answers.old.items) (answer_view set.entry)) }
 {

@@ -12,12 +12,10 @@ ghost use Rattle.domain_zone_denial.specs.Denial.{AreOnce, AreNsecFor, AreNsecsF
 ghost use Rattle.domain_zone_denial.specs.Denial.{DeniesAt, DeniesFor};
 ghost use Rattle.domain_zone_denial.specs.Views.{denial_list};
 
-use crate::encloser::closest_encloser;
 use crate::nsec::nsec_for;
-use domain_list::Chain;
 use domain_list::comparing::eq_names;
-use domain_name::{Name, RelativeName};
-use domain_zone::{Answer, Owner, Zone};
+use domain_name::Name;
+use domain_zone::{Answer, Owner, Zone, source_of_synthesis};
 use domain_zone_laws::reply::Reply;
 use domain_zone_laws::zone::Rrset;
 
@@ -92,10 +90,7 @@ fn with_source<'z>(zone: &'z Zone, name: &Name<&[u8]>) -> Denial<'z>
         × AreNsecsFor (zone_view zone.now) (name_labels name.now) (source_of_synthesis e)
         (denial_list result) }
 {
-    let encloser = closest_encloser(zone.records(), *name);
-    let Ok(source) = Chain::new(RelativeName::wildcard_ref(), encloser) else {
-        unreachable!();
-    };
+    let source = source_of_synthesis(zone.records(), *name);
     once(nsec_for(zone, name), nsec_for(zone, &source))
 }
 

@@ -2,7 +2,6 @@
 #![tactic(auto)]
 
 mod denial;
-mod encloser;
 mod laws;
 mod nsec;
 

@@ -194,10 +194,10 @@ lacks_answer c server asked told q given k capacity room limit octets n m a same
     (lacks_asked c server asked capacity room q octets n a tells (has_question n k asked told q said is) begun.holds (begun.limit_is ∙ of_limit) (omega (arith, begun.aside_is, short_opt given)) le why)
 
 -- The OPT record after its question has none.
-pub lacks_opt : (c : Bool) (z : Zone) (class k : ℕ) (query : Header) (server : Server) (asked : Asked) (told : Result QuestionFields ℕ) (q : QuestionFields) (given : Option Opt) (upper capacity room more limit : ℕ) (octets n m : List ℕ) (a b : State) → n ≡ m → TellsOpt n asked → Asks n k asked told → told ≡ Ok q
-    → given ≡ response_opt server.payload_size asked upper → limit ≡ response_limit server asked → BeginsWith c limit (opt_len given) a → capacity ≤ room → Answered c z class query q room a b → room ≤ more → (o : Opt) × (given ≡ Some o) × HasNoRoomFor o (start_of Answer b.starts) more b.limit
+pub lacks_opt : (c : Bool) (z : Zone) (ok : Bool) (class k : ℕ) (query : Header) (server : Server) (asked : Asked) (told : Result QuestionFields ℕ) (q : QuestionFields) (given : Option Opt) (upper capacity room more limit : ℕ) (octets n m : List ℕ) (a b : State) → n ≡ m → TellsOpt n asked → Asks n k asked told → told ≡ Ok q
+    → given ≡ response_opt server.payload_size asked upper → limit ≡ response_limit server asked → BeginsWith c limit (opt_len given) a → capacity ≤ room → Answered c z ok class query q room a b → room ≤ more → (o : Opt) × (given ≡ Some o) × HasNoRoomFor o (start_of Answer b.starts) more b.limit
     → LacksRoom c server capacity octets m
-lacks_opt c z class k query server asked told q given upper capacity room more limit octets n m a b same tells said is of_opt of_limit begun le x grows (o, some, why) =
+lacks_opt c z ok class k query server asked told q given upper capacity room more limit octets n m a b same tells said is of_opt of_limit begun le x grows (o, some, why) =
     let it : Content = holding class (only_question q) x.puts.answer x.puts.authority x.puts.additional in
     let before : Holds c x.before it = x.puts.fills.holds (only_question q) refl (x.holds begun.holds) in
     let now : Holds c b it = subst (λ s. Holds c s it) (sym x.new_is) before in

@@ -1,4 +1,5 @@
 mod Bits
+mod Covering
 mod Filling
 mod Growing
 mod Lacking

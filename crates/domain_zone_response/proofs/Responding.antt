@@ -25,7 +25,8 @@ use Rattle.domain_message_builder.specs.State.{State}
 use Rattle.domain_message_builder.specs.declared.error.PushError.{PushError}
 use Rattle.domain_zone.specs.Headers.{HasAuthority, response_code}
 use Rattle.domain_zone_answer.specs.Sections.{Sections}
-use Rattle.domain_zone_chain.specs.ChainSections.{Follows}
+use Rattle.domain_zone_signed.specs.Signing.{AddsDnssecIf, FollowsWith}
+use Rattle.domain_zone_chain.specs.ChainSections.{IsFollowedBy, Follows}
 use Rattle.domain_zone_laws.specs.Answers.{Outcome}
 use Rattle.domain_zone_laws.specs.Zone.{Zone, RRset}
 use Rattle.domain_message_builder.proofs.Composing.{composed_after}
@@ -34,7 +35,7 @@ use Rattle.domain_zone_response.specs.Headers.{IsResponseHeader, RespondsTo}
 use Rattle.domain_zone_response.specs.Included.{cut_of, Kept, LeftOut, Puts, holding}
 use Rattle.domain_zone_response.specs.Included.Kept.{whole, no_answer, no_authority, no_glue}
 use Rattle.domain_zone_response.specs.Included.Keeps.{pushed, no_opt}
-use Rattle.domain_zone_response.specs.Edns.{response_limit, response_opt, opt_len}
+use Rattle.domain_zone_response.specs.Edns.{asks_dnssec, response_limit, response_opt, opt_len}
 use Rattle.domain_zone_response.specs.Queries.{Asked, TellsOpt, Asks, IsAnswerable}
 use Rattle.domain_zone_response.specs.Responses.{IsAnswered, AnswersQuery, RepeatsQuestion, StartsAsked, Responds, only_question, upper_bits}
 use Rattle.domain_zone_response.specs.declared.edns.Server.{Server}
@@ -169,11 +170,11 @@ puts_less c k cut all less more b a d le x = record {
 }
 
 -- The header and what is held, of a question that is answered.
-answered_by : (c : Bool) (z : Zone) (class limit capacity room more : ℕ) (query : Header) (m : List ℕ) (q : QuestionFields) (opt : Option Opt) (a b : State) (made : List ℕ)
-    → header_id query ≡ number16 m 0 → header_high query ≡ slice_index m 2 → BeginsWith c limit (opt_len opt) a → capacity ≤ room → room ≤ more → (x : Answered c z class query q room a b) → EndsAnswer c false opt more b made
-    → (h : Header) × (it : Content) × IsAnswered c z class limit capacity opt m q h it × IsMessageOf h (with_opt opt it) made
+answered_by : (c : Bool) (z : Zone) (ok : Bool) (class limit capacity room more : ℕ) (query : Header) (m : List ℕ) (q : QuestionFields) (opt : Option Opt) (a b : State) (made : List ℕ)
+    → header_id query ≡ number16 m 0 → header_high query ≡ slice_index m 2 → BeginsWith c limit (opt_len opt) a → capacity ≤ room → room ≤ more → (x : Answered c z ok class query q room a b) → EndsAnswer c false opt more b made
+    → (h : Header) × (it : Content) × IsAnswered c z ok class limit capacity opt m q h it × IsMessageOf h (with_opt opt it) made
 unfolding puts_less
-answered_by c z class limit capacity room more query m q opt a b made id high begun le grows x (finished h same reads) =
+answered_by c z ok class limit capacity room more query m q opt a b made id high begun le grows x (finished h same reads) =
     let it : Content = holding class (only_question q) x.puts.answer x.puts.authority x.puts.additional in
     let asked : Holds c x.asked (only_question q) = x.holds begun.holds in
     let before : Holds c x.before it = x.puts.fills.holds (only_question q) refl asked in
@@ -200,7 +201,7 @@ answered_by c z class limit capacity room more query m q opt a b made id high be
       },
       reads it now,
     )
-answered_by c z class limit capacity room more query m q opt a b made id high begun le grows x (bare o some cannot h sets reads) =
+answered_by c z ok class limit capacity room more query m q opt a b made id high begun le grows x (bare o some cannot h sets reads) =
     let it : Content = holding class (only_question q) x.puts.answer x.puts.authority x.puts.additional in
     let asked : Holds c x.asked (only_question q) = x.holds begun.holds in
     let before : Holds c x.before it = x.puts.fills.holds (only_question q) refl asked in
@@ -231,10 +232,10 @@ answered_by c z class limit capacity room more query m q opt a b made id high be
     )
 
 -- A question is answered.
-is_answered : (c : Bool) (z : Zone) (class limit capacity room more : ℕ) (query : Header) (m : List ℕ) (q : QuestionFields) (opt : Option Opt) (a b : State) (made : List ℕ)
-    → header_id query ≡ number16 m 0 → header_high query ≡ slice_index m 2 → BeginsWithQuestion m q → BeginsWith c limit (opt_len opt) a → capacity ≤ room → room ≤ more → (x : Answered c z class query q room a b) → EndsWith c opt more b made
+is_answered : (c : Bool) (z : Zone) (ok : Bool) (class limit capacity room more : ℕ) (query : Header) (m : List ℕ) (q : QuestionFields) (opt : Option Opt) (a b : State) (made : List ℕ)
+    → header_id query ≡ number16 m 0 → header_high query ≡ slice_index m 2 → BeginsWithQuestion m q → BeginsWith c limit (opt_len opt) a → capacity ≤ room → room ≤ more → (x : Answered c z ok class query q room a b) → EndsWith c opt more b made
     → (length made ≤ limit) × StartsAsked c m made
-is_answered c z class limit capacity room more query m q opt a b made id high first begun le grows x y =
+is_answered c z ok class limit capacity room more query m q opt a b made id high first begun le grows x y =
     let it : Content = holding class (only_question q) x.puts.answer x.puts.authority x.puts.additional in
     let before : Holds c x.before it = x.puts.fills.holds (only_question q) refl (x.holds begun.holds) in
     let now : Holds c b it = subst (λ s. Holds c s it) (sym x.new_is) before in (
@@ -242,17 +243,28 @@ is_answered c z class limit capacity room more query m q opt a b made id high fi
       starts_asked c m (q ∷ []) made (inl (q, first, refl)) (y.spelled it now),
     )
 
+-- The sections that follow, with records of DNSSEC if they are asked for.
+pub follows_with : (z : Zone) (ok : Bool) (ls ms : List (List ℕ)) (t : ℕ) (first last end : Outcome) (plain all : Sections) (names : List (List (List ℕ)))
+    → ls ≡ ms → end ≡ last → Follows z ls t first last plain → IsFollowedBy z ls t first names → AddsDnssecIf ok z t (ms ∷ names) plain all → FollowsWith z ok ls t first end all
+follows_with z ok ls ms t first last end plain all names name same follows asked adds = record {
+  plain = plain;
+  follows = subst (λ o. Follows z ls t first o plain) (sym same) follows;
+  names = names;
+  asked = asked;
+  adds = subst (λ n. AddsDnssecIf ok z t (n ∷ names) plain all) (sym name) adds;
+}
+
 -- The question and the sections were pushed, and the header was set.
-pub answers_question : (c : Bool) (z : Zone) (class k : ℕ) (query h : Header) (q : QuestionFields) (ls : List (List ℕ)) (t code : ℕ) (first last : Outcome) (all : Sections) (all_there aa tc : Bool) (less more : ℕ) (a b d e : State)
-    → ls ≡ q.name → t ≡ q.rtype → k ≡ class → code ≡ response_code last → tc ≡ not all_there → Follows z ls t first last all → PushesQuestion c q a b → less ≤ more
-    → Puts c k (cut_of last) all more all_there b d → IsTrue aa ↔ HasAuthority first → RespondsTo query aa tc code h → e ≡ with_header h d → length e.octets + e.reserved ≤ e.limit → Answered c z class query q less a e
-answers_question c z class k query h q ls t code first last all all_there aa tc less more a b d e name rtype of_class of_code of_tc follows put le puts authority said is within =
+pub answers_question : (c : Bool) (z : Zone) (ok : Bool) (class k : ℕ) (query h : Header) (q : QuestionFields) (ls : List (List ℕ)) (t code : ℕ) (first last : Outcome) (all : Sections) (all_there aa tc : Bool) (less more : ℕ) (a b d e : State)
+    → ls ≡ q.name → t ≡ q.rtype → k ≡ class → code ≡ response_code last → tc ≡ not all_there → FollowsWith z ok ls t first last all → PushesQuestion c q a b → less ≤ more
+    → Puts c k (cut_of last) all more all_there b d → IsTrue aa ↔ HasAuthority first → RespondsTo query aa tc code h → e ≡ with_header h d → length e.octets + e.reserved ≤ e.limit → Answered c z ok class query q less a e
+answers_question c z ok class k query h q ls t code first last all all_there aa tc less more a b d e name rtype of_class of_code of_tc follows put le puts authority said is within =
     let header : e.header ≡ h = ap (λ (s : State). s.header) is in
     record {
       first = first;
       last = last;
       all = all;
-      follows = subst (λ l. Follows z l q.rtype first last all) name (subst (λ n. Follows z ls n first last all) rtype follows);
+      follows = subst (λ l. FollowsWith z ok l q.rtype first last all) name (subst (λ n. FollowsWith z ok ls n first last all) rtype follows);
       whole = all_there;
       asked = b;
       limit_is = put.settings.limit;
@@ -272,14 +284,14 @@ tells_opt m (Ok found) ok err = ok
 tells_opt m (Err e) ok err = err
 
 -- The response to a question that is answered.
-pub responds_answered : (c : Bool) (z : Zone) (class k : ℕ) (server : Server) (capacity room more limit upper : ℕ) (n m made : List ℕ) (query : Header) (asked : Asked) (told : Result QuestionFields ℕ) (q : QuestionFields) (opt : Option Opt) (a b : State)
-    → n ≡ m → k ≡ class → TellsOpt n asked → Asks n k asked told → told ≡ Ok q → opt ≡ response_opt server.payload_size asked upper → upper ≡ upper_bits told → limit ≡ response_limit server asked
-    → header_id query ≡ number16 n 0 → header_high query ≡ slice_index n 2 → BeginsWith c limit (opt_len opt) a → capacity ≤ room → room ≤ more → Answered c z class query q room a b → EndsWith c opt more b made
+pub responds_answered : (c : Bool) (z : Zone) (ok : Bool) (class k : ℕ) (server : Server) (capacity room more limit upper : ℕ) (n m made : List ℕ) (query : Header) (asked : Asked) (told : Result QuestionFields ℕ) (q : QuestionFields) (opt : Option Opt) (a b : State)
+    → n ≡ m → k ≡ class → TellsOpt n asked → Asks n k asked told → told ≡ Ok q → ok ≡ asks_dnssec asked → opt ≡ response_opt server.payload_size asked upper → upper ≡ upper_bits told → limit ≡ response_limit server asked
+    → header_id query ≡ number16 n 0 → header_high query ≡ slice_index n 2 → BeginsWith c limit (opt_len opt) a → capacity ≤ room → room ≤ more → Answered c z ok class query q room a b → EndsWith c opt more b made
     → Responds c z class server capacity m made
-responds_answered c z class k server capacity room more limit upper n m made query asked told q opt a b same of_class tells said is of_opt of_upper of_limit id high begun le grows answered ended =
+responds_answered c z ok class k server capacity room more limit upper n m made query asked told q opt a b same of_class tells said is of_ok of_opt of_upper of_limit id high begun le grows answered ended =
     let opt_is : opt ≡ response_opt server.payload_size asked 0 = of_opt ∙ ap (λ u. response_opt server.payload_size asked u) (of_upper ∙ ap upper_bits is) in
-    let x = answered_by c z class limit capacity room more query n q opt a b made id high begun le grows answered ended.ends in
-    let y = is_answered c z class limit capacity room more query n q opt a b made id high (has_question n k asked told q said is) begun le grows answered ended in
+    let x = answered_by c z ok class limit capacity room more query n q opt a b made id high begun le grows answered ended.ends in
+    let y = is_answered c z ok class limit capacity room more query n q opt a b made id high (has_question n k asked told q said is) begun le grows answered ended in
     subst (λ l. Responds c z class server capacity l made) same (record {
       asked = asked;
       tells = tells;
@@ -287,7 +299,7 @@ responds_answered c z class k server capacity room more limit upper n m made que
       asks = subst (Asks n class asked) is (subst (λ j. Asks n j asked told) of_class said);
       header = x.0;
       it = x.1;
-      has = subst (λ l. IsAnswered c z class l capacity (response_opt server.payload_size asked 0) n q x.0 x.1) of_limit (subst (λ o. IsAnswered c z class limit capacity o n q x.0 x.1) opt_is x.2);
+      has = subst (λ l. IsAnswered c z (asks_dnssec asked) class l capacity (response_opt server.payload_size asked 0) n q x.0 x.1) of_limit (subst (λ o. IsAnswered c z (asks_dnssec asked) class limit capacity o n q x.0 x.1) opt_is (subst (λ d. IsAnswered c z d class limit capacity opt n q x.0 x.1) of_ok x.2));
       reads = subst (λ o. IsMessageOf x.0 (with_opt o x.1) made) opt_is x.3;
       within = omega (arith, y.0, of_limit);
       spelled = y.1;

@@ -20,17 +20,23 @@ limit_over Datagram size (Err e) = 512
 abbrev pub response_limit : Server → Asked → ℕ
 response_limit server asked = limit_over server.transport server.payload_size asked
 
+-- Records of DNSSEC are asked for: the query has one OPT record, of the root, with the bit DO (RFC 3225, 3; RFC 4035,
+-- 3.1). With two OPT records, or one that isn't of the root, the bit is clear.
+abbrev pub asks_dnssec : Asked → Bool
+asks_dnssec (Ok None) = false
+asks_dnssec (Ok (Some opt)) = dnssec_ok_bit (opt_ttl opt) == 1
+asks_dnssec (Err e) = false
+
 -- An OPT record of version 0 without options: the server's size, the upper bits of the response code, and the bit DO.
 abbrev pub plain_opt : ℕ → ℕ → Bool → Opt
 plain_opt size upper dnssec_ok =
     record { udp_payload_size = taken_size size; rcode_ext = upper; version = 0; dnssec_ok = dnssec_ok; options = [] }
 
 -- The OPT record of a response: there is one exactly where the query has one and no entry of it is missing (RFC 6891,
--- 6.1.1). DO is that of the query (RFC 3225, 3), and clear where that has two OPT records, or one that isn't of the
--- root.
+-- 6.1.1). DO is that of the query (RFC 3225, 3).
 abbrev pub response_opt : ℕ → Asked → ℕ → Option Opt
 response_opt size (Ok None) upper = None
-response_opt size (Ok (Some opt)) upper = Some (plain_opt size upper (dnssec_ok_bit (opt_ttl opt) == 1))
+response_opt size (Ok (Some opt)) upper = Some (plain_opt size upper (asks_dnssec (Ok (Some opt))))
 response_opt size (Err (Parse e)) upper = None
 response_opt size (Err Another) upper = Some (plain_opt size upper false)
 response_opt size (Err Owner) upper = Some (plain_opt size upper false)

@@ -11,12 +11,12 @@ use Rattle.domain_message_builder.specs.State.{State}
 use Rattle.domain_message_builder.specs.declared.builder.MessageBuilder.{MessageBuilder}
 use Rattle.domain_zone.specs.Headers.{HasAuthority, response_code}
 use Rattle.domain_zone_answer.specs.Sections.{Sections}
-use Rattle.domain_zone_chain.specs.ChainSections.{Follows}
 use Rattle.domain_zone_laws.specs.Answers.{Outcome}
 use Rattle.domain_zone_laws.specs.Zone.{Zone}
 use Rattle.domain_zone_response.specs.Headers.{RespondsTo}
 use Rattle.domain_zone_response.specs.Included.{cut_of, Puts}
 use Rattle.domain_zone_response.specs.Responses.{IsRefused, StartsAsked, only_question}
+use Rattle.domain_zone_signed.specs.Signing.{FollowsWith}
 
 -- After its header the message m starts with octets that these questions may be composed into.
 pub record StartsWith (compresses : Bool) (qs : List QuestionFields) (m : List ℕ) : Type 0 where
@@ -70,11 +70,11 @@ Refuses {g = g} m code opt b made = RefusesBy g.compresses m code opt (state b) 
 
 -- The question was pushed, and then what the zone answers to it, and the header was set. `asked` is the state after
 -- the question, with the same limit and as many octets set aside. These are still free.
-pub record Answered (compresses : Bool) (z : Zone) (class : ℕ) (query : Header) (q : QuestionFields) (capacity : ℕ) (old new : State) : Type 0 where
+pub record Answered (compresses : Bool) (z : Zone) (dnssec_ok : Bool) (class : ℕ) (query : Header) (q : QuestionFields) (capacity : ℕ) (old new : State) : Type 0 where
   pub first : Outcome
   pub last : Outcome
   pub all : Sections
-  pub follows : Follows z q.name q.rtype first last all
+  pub follows : FollowsWith z dnssec_ok q.name q.rtype first last all
   pub whole : Bool
   pub asked : State
   pub limit_is : asked.limit ≡ old.limit
@@ -89,6 +89,6 @@ pub record Answered (compresses : Bool) (z : Zone) (class : ℕ) (query : Header
   pub within : length new.octets + new.reserved ≤ new.limit
 
 abbrev pub AnswersFrom : {T E : Type 0} {g : _} {h : _} {i : _} {j : _} {k : _} {l : _}
-    → Zone → ℕ → Header → QuestionFields → MessageBuilder T E g h i j k l → MessageBuilder T E g h i j k l → Type 0
-AnswersFrom {g = g} z class query q old new =
-    Answered g.compresses z class query q (target_room old) (state old) (state new)
+    → Zone → Bool → ℕ → Header → QuestionFields → MessageBuilder T E g h i j k l → MessageBuilder T E g h i j k l → Type 0
+AnswersFrom {g = g} z dnssec_ok class query q old new =
+    Answered g.compresses z dnssec_ok class query q (target_room old) (state old) (state new)

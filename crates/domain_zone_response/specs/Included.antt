@@ -1,5 +1,5 @@
 -- Which RRsets of its sections a response has, where not all fit.
-use Rattle.std.specs.Prelude.{◌≡◌, ℕ, ◌+◌, ◌<◌, ◌≤◌, Bool, true, false, List, [], ◌∷◌, ◌++◌, length, take, Option, Some}
+use Rattle.std.specs.Prelude.{◌≡◌, ◌≢◌, ℕ, ◌+◌, ◌<◌, ◌≤◌, Bool, true, false, List, [], ◌∷◌, ◌++◌, length, take, Option, Some}
 use Rattle.domain_label.specs.Wire.{Root}
 use Rattle.domain_list.specs.Ends.{EndsWith}
 use Rattle.domain_message.specs.declared.section.Section.{Section}
@@ -11,7 +11,7 @@ use Rattle.domain_message_builder.specs.Pushes.{SameSettings, emptied}
 use Rattle.domain_message_builder.specs.State.{State}
 use Rattle.domain_zone_answer.specs.Sections.{Sections}
 use Rattle.domain_zone_laws.specs.Answers.{Outcome, out_of_zone, referral, found, redirect, too_long, synthesized, name_error}
-use Rattle.domain_zone_laws.specs.Zone.{RRset}
+use Rattle.domain_zone_laws.specs.Zone.{RRset, RRSIG}
 use Rattle.domain_zone_response.specs.Pushing.{all_records, DoesNotFit}
 
 -- The name of the cut of a referral. In another response, where there are no addresses, the root.
@@ -24,12 +24,16 @@ cut_of (too_long s) = Root
 cut_of (synthesized r) = Root
 cut_of name_error = Root
 
--- Of the addresses xs, the RRsets ys are those at or below the cut, in their order, and zs the others: glue of
--- in-domain name servers is required (RFC 9471, 3.1).
+-- The RRset s of the additional section is required: glue of in-domain name servers is (RFC 9471, 3.1), and their
+-- signatures aren't, if a zone has some (RFC 4035, 3.1.1).
+abbrev pub IsRequired : List (List ℕ) → RRset → Type 0
+IsRequired cut s = EndsWith s.owner cut × (s.rtype ≢ RRSIG)
+
+-- Of the RRsets xs, ys are those that are required, in their order, and zs the others.
 pub data Parts (cut : List (List ℕ)) : List RRset → List RRset → List RRset → Type 0 where
   none : Parts cut [] [] []
-  required : (s : RRset) (xs ys zs : List RRset) → EndsWith s.owner cut → Parts cut xs ys zs → Parts cut (s ∷ xs) (s ∷ ys) zs
-  other : (s : RRset) (xs ys zs : List RRset) → (EndsWith s.owner cut → ⊥) → Parts cut xs ys zs → Parts cut (s ∷ xs) ys (s ∷ zs)
+  required : (s : RRset) (xs ys zs : List RRset) → IsRequired cut s → Parts cut xs ys zs → Parts cut (s ∷ xs) (s ∷ ys) zs
+  other : (s : RRset) (xs ys zs : List RRset) → (IsRequired cut s → ⊥) → Parts cut xs ys zs → Parts cut (s ∷ xs) ys (s ∷ zs)
 
 -- Which RRsets the three sections have, and whether that are all that are required. In the additional section the
 -- required ones come first (RFC 9471, 3.2), and as many of the others as were pushed after them. Else it ends before

@@ -11,14 +11,14 @@ use Rattle.domain_message_builder.specs.Reading.{IsMessageOf}
 use Rattle.domain_message_builder.specs.State.{State}
 use Rattle.domain_zone.specs.Headers.{HasAuthority, response_code}
 use Rattle.domain_zone_answer.specs.Sections.{Sections}
-use Rattle.domain_zone_chain.specs.ChainSections.{Follows}
 use Rattle.domain_zone_laws.specs.Answers.{Outcome}
 use Rattle.domain_zone_laws.specs.Zone.{Zone, RRset}
-use Rattle.domain_zone_response.specs.Edns.{response_limit, response_opt, opt_len}
+use Rattle.domain_zone_response.specs.Edns.{asks_dnssec, response_limit, response_opt, opt_len}
 use Rattle.domain_zone_response.specs.Headers.{IsResponseHeader}
 use Rattle.domain_zone_response.specs.Included.{cut_of, Keeps, holding}
 use Rattle.domain_zone_response.specs.Queries.{Asked, TellsOpt, Asks}
 use Rattle.domain_zone_response.specs.declared.edns.Server.{Server}
+use Rattle.domain_zone_signed.specs.Signing.{FollowsWith}
 
 -- these questions alone
 abbrev pub asking : List QuestionFields → Content
@@ -39,14 +39,14 @@ abbrev pub AnswersQuery : List ℕ → Bool → Bool → ℕ → Header → Type
 AnswersQuery m aa tc rcode h = IsResponseHeader (number16 m 0) (slice_index m 2) aa tc rcode h
 
 -- What a message holds that answers the question q of the query m from the zone z, and its header: the sections of the
--- one chain of questions, whole or with TC up to the first required RRset that doesn't fit. Or none of them, with TC,
--- where they leave no room for the OPT record. AA is that of the first question, and the response code that of the
--- last.
-pub record IsAnswered (compresses : Bool) (z : Zone) (class limit capacity : ℕ) (opt : Option Opt) (m : List ℕ) (q : QuestionFields) (header : Header) (it : Content) : Type 0 where
+-- one chain of questions, with records of DNSSEC if they are asked for. They are whole, or with TC up to the first
+-- required RRset that doesn't fit. Or there are none of them, with TC, where they leave no room for the OPT record. AA
+-- is that of the first question, and the response code that of the last.
+pub record IsAnswered (compresses : Bool) (z : Zone) (dnssec_ok : Bool) (class limit capacity : ℕ) (opt : Option Opt) (m : List ℕ) (q : QuestionFields) (header : Header) (it : Content) : Type 0 where
   pub first : Outcome
   pub last : Outcome
   pub all : Sections
-  pub follows : Follows z q.name q.rtype first last all
+  pub follows : FollowsWith z dnssec_ok q.name q.rtype first last all
   pub whole : Bool
   pub answer : List RRset
   pub authority : List RRset
@@ -86,7 +86,7 @@ pub record StartsAsked (compresses : Bool) (m made : List ℕ) : Type 0 where
 -- The content of a response to a query that asks this, with its header.
 abbrev pub HasContent : Bool → Zone → ℕ → Server → ℕ → List ℕ → Asked → Result QuestionFields ℕ → Header → Content → Type 0
 HasContent compresses z class server capacity m asked (Ok q) header it =
-    IsAnswered compresses z class (response_limit server asked) capacity (response_opt server.payload_size asked 0) m q header it
+    IsAnswered compresses z (asks_dnssec asked) class (response_limit server asked) capacity (response_opt server.payload_size asked 0) m q header it
 HasContent compresses z class server capacity m asked (Err code) header it = IsRefused m code header it
 
 -- the upper bits of the response code: those above the header's four (RFC 6891, 6.1.3)

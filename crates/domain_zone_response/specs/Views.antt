@@ -1,6 +1,6 @@
 -- What contracts say about a builder to which RRsets are pushed. `g` is what `Composer` provides, and `h` to `l` are
 -- as in `Builders` of `domain_message_builder`.
-use Rattle.std.specs.Prelude.{◌≡◌, ℕ, Bool, List, ◌++◌, map, length}
+use Rattle.std.specs.Prelude.{◌≡◌, ℕ, ◌⊎◌, Bool, List, [], ◌∷◌, ◌++◌, length}
 use Rattle.domain_header.specs.Values.{class_number}
 use Rattle.domain_message.specs.declared.section.Section.{Section}
 use Rattle.domain_message_builder.specs.Builders.{state, target_room}
@@ -8,13 +8,12 @@ use Rattle.domain_message_builder.specs.Contents.{PushedRecord}
 use Rattle.domain_message_builder.specs.declared.builder.MessageBuilder.{MessageBuilder}
 use Rattle.domain_name.specs.Names.{name_labels}
 use Rattle.domain_zone_answer.specs.Sections.{Sections}
-use Rattle.domain_zone_chain.specs.Views.{answer_view}
-use Rattle.domain_zone_chain.specs.declared.answer.AnswerRrset.{AnswerRrset}
 use Rattle.domain_zone_laws.specs.Zone.{RRset}
-use Rattle.domain_zone_response.specs.Included.{Parts, Puts}
+use Rattle.domain_zone_response.specs.Included.{IsRequired, Parts, Puts}
 use Rattle.domain_zone_response.specs.Pushing.{Gains, Fills, CannotAdd, DoesNotFit, StopsAt, Stops}
 use Rattle.domain_zone_response.specs.declared.glue.Glue.{Glue}
 use Rattle.domain_zone_response.specs.declared.rrset.Head.{Head}
+use Rattle.domain_zone_signed.specs.Views.{response_views}
 
 -- the record with this head and these data
 abbrev pub headed_record : Head → List ℕ → PushedRecord
@@ -23,16 +22,18 @@ headed_record h d = record {
   rdata = d;
 }
 
--- the RRsets as sections have them
-abbrev pub set_views : List AnswerRrset → List RRset
-set_views xs = map answer_view xs
+-- The RRset s comes after the required ones ys, or after the others zs.
+abbrev pub TakesPart : List (List ℕ) → RRset → List RRset → List RRset → List RRset → List RRset → Type 0
+TakesPart cut s ys zs required others =
+    (IsRequired cut s × (required ≡ ys ++ s ∷ []) × (others ≡ zs))
+    ⊎ ((IsRequired cut s → ⊥) × (required ≡ ys) × (others ≡ zs ++ s ∷ []))
 
--- The addresses xs: those that are required first, and how many these are.
+-- The RRsets xs of the additional section: those that are required first, and how many these are.
 pub record IsGlue (cut : List (List ℕ)) (xs : List RRset) (it : Glue) : Type 0 where
   pub ys : List RRset
   pub zs : List RRset
   pub parts : Parts cut xs ys zs
-  pub sets : set_views it.sets.items ≡ ys ++ zs
+  pub sets : response_views it.sets.items ≡ ys ++ zs
   pub required : it.required ≡ length ys
 
 -- The records were pushed into the section.

@@ -2,7 +2,7 @@
 ghost use Rattle.std.specs.Prelude.{◌≡◌};
 ghost use Rattle.domain_message.specs.OptRecords.{taken_size};
 ghost use Rattle.domain_message_builder.specs.OptViews.{opt_given};
-ghost use Rattle.domain_zone_response.specs.Edns.{response_limit, response_opt};
+ghost use Rattle.domain_zone_response.specs.Edns.{asks_dnssec, response_limit, response_opt};
 
 use domain_message::{OptError, OptRecord};
 use domain_message_builder::OptBuilder;
@@ -50,9 +50,19 @@ pub(crate) fn limit_of(server: Server, asked: &Result<Option<OptRecord<'_>>, Opt
     }
 }
 
+/// Whether a query asks for records of DNSSEC: by the bit DO of its one OPT record (RFC 4035, 3.1). With two OPT
+/// records, or one that isn't of the root, it doesn't.
+pub(crate) fn asks_dnssec(asked: &Result<Option<OptRecord<'_>>, OptError>) -> bool
+    ensures { result ≡ asks_dnssec asked.now }
+{
+    match asked {
+        Ok(Some(opt)) => opt.dnssec_ok(),
+        _ => false,
+    }
+}
+
 /// The OPT record of a response: it has one exactly where the query has one and no entry of it is missing (RFC 6891,
-/// 6.1.1). The bit DO is that of the query (RFC 3225, 3), the version is 0, and there are no options. An OPT record
-/// that isn't of the root, or of which there are two, has no bit DO to copy.
+/// 6.1.1). The bit DO is that of the query (RFC 3225, 3), the version is 0, and there are no options.
 pub(crate) fn opt_for(
     server: Server,
     asked: &Result<Option<OptRecord<'_>>, OptError>,
@@ -60,17 +70,16 @@ pub(crate) fn opt_for(
 ) -> Option<OptBuilder<&'static [u8]>>
     ensures { opt_given result ≡ response_opt server.payload_size asked.now upper }
 {
-    let dnssec_ok = match asked {
+    match asked {
         Ok(None) => return None,
         Err(OptError::Parse(_)) => return None,
-        Ok(Some(opt)) => opt.dnssec_ok(),
-        Err(_) => false,
-    };
+        _ => (),
+    }
     let Ok(mut opt) = OptBuilder::new(b"".as_slice()) else {
         unreachable!();
     };
     opt.set_udp_payload_size(at_least_512(server.payload_size));
     opt.set_rcode_ext(upper);
-    opt.set_dnssec_ok(dnssec_ok);
+    opt.set_dnssec_ok(asks_dnssec(asked));
     Some(opt)
 }

@@ -14,7 +14,7 @@ ghost use Rattle.domain_zone_response.specs.Rooms.{CannotBeAsked, RefusalDoesNot
 ghost use Rattle.domain_zone_response.specs.declared.error.ResponseError.TheVariants.{NoRoom, Memory};
 ghost use Rattle.domain_zone_response.specs.Finishing.{Finishes, Ends, BeginsMessage, Refuses, AnswersFrom};
 
-use crate::edns::{Server, limit_of, opt_for};
+use crate::edns::{Server, asks_dnssec, limit_of, opt_for};
 use crate::error::ResponseError;
 use crate::header::{Verdict, response_header};
 use crate::query::question_of;
@@ -29,6 +29,7 @@ use domain_traits::ToName;
 use domain_zone::Zone;
 use domain_zone_answer::respond;
 use domain_zone_chain::{follow, names_of, respond_along};
+use domain_zone_signed::{Questions, add_dnssec};
 use std::alloc::Global;
 
 /// Pushes the OPT record, if there is one, and finishes the message.
@@ -135,11 +136,12 @@ fn refuse<Target: Composer + Drop>(
 fn answer_from<Target: Composer + Drop>(
     alloc: Global,
     zone: &Zone,
+    dnssec_ok: bool,
     query: Header,
     question: &Question<ParsedName<&[u8]>>,
     message: &mut MessageBuilder<Target>,
 ) -> Result<(), ResponseError>
-    ensures answers { IfOk result (λ _. AnswersFrom (zone_view zone.now)
+    ensures answers { IfOk result (λ _. AnswersFrom (zone_view zone.now) dnssec_ok
         (class_number (zone_class zone.now)) query (question_fields question.now)
         message.old message.new) }
     ensures why { IfErr result (λ e. e ≡ NoRoom →
@@ -162,7 +164,16 @@ fn answer_from<Target: Composer + Drop>(
     let Ok(views) = names_of(alloc, names.as_slice()) else {
         return Err(ResponseError::Memory);
     };
-    let Ok(response) = respond_along(alloc, zone, rtype, first, views.as_slice()) else {
+    let names = views.as_slice();
+    let Ok(chain) = respond_along(alloc, zone, rtype, first, names) else {
+        return Err(ResponseError::Memory);
+    };
+    let questions = Questions {
+        name: &name,
+        rtype,
+        names,
+    };
+    let Ok(response) = add_dnssec(alloc, zone, questions, chain, dnssec_ok) else {
         return Err(ResponseError::Memory);
     };
     let Ok(whole) = push_sections(alloc, message, zone.class(), &response) else {
@@ -221,7 +232,14 @@ pub fn respond_to<Target: Composer + Drop>(
     };
     match &question {
         Ok(question) => {
-            if let Err(e) = answer_from(alloc, zone, query.header(), question, &mut message) {
+            if let Err(e) = answer_from(
+                alloc,
+                zone,
+                asks_dnssec(&asked),
+                query.header(),
+                question,
+                &mut message,
+            ) {
                 return Err(e);
             }
             match finish_answer(message, opt) {

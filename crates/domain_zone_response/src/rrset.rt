@@ -1,11 +1,14 @@
 //! RRsets in a message.
-ghost use Rattle.std.specs.Prelude.{◌≡◌, ◌≤◌, ◌∷◌, [], IsTrue, IsFalse};
+ghost use Rattle.std.specs.Prelude.{◌≡◌, ℕ, ◌≤◌, true, List, ◌∷◌, [], map, IsTrue, IsFalse};
+ghost use Rattle.std.specs.List.{filter};
 ghost use Rattle.domain_header.specs.Values.{class_number};
 ghost use Rattle.domain_message_builder.specs.Builders.{state, target_room};
-ghost use Rattle.domain_zone_answer.specs.Views.{section_view, section_list, cname_view};
-ghost use Rattle.domain_zone_response.specs.Pushing.{record_of, records_of, all_records};
-ghost use Rattle.domain_zone_response.specs.Views.{headed_record, GainsRecords, GainsSome, FillsRecords};
-ghost use Rattle.domain_zone_response.specs.Views.{RecordCannotBeAdded, RrsetDoesNotFit, StopsPushing};
+ghost use Rattle.domain_zone_answer.specs.Views.{section_view, cname_view};
+ghost use Rattle.domain_zone_response.specs.Pushing.{record_of, records_of};
+ghost use Rattle.domain_zone_response.specs.Views.{headed_record, GainsRecords, GainsSome};
+ghost use Rattle.domain_zone_response.specs.Views.{RecordCannotBeAdded, RrsetDoesNotFit};
+ghost use Rattle.domain_zone_signed.specs.Signing.{covers};
+ghost use Rattle.domain_zone_signed.specs.Views.{signatures_type, signatures_view};
 
 use domain_header::{Class, Ttl};
 use domain_list::composing::put_name;
@@ -14,6 +17,8 @@ use domain_message_builder::MessageBuilder;
 use domain_name::Name;
 use domain_rdata::{Composer, Rtype, UnknownRecordData};
 use domain_zone_answer::{SectionRrset, SynthesizedCname};
+use domain_zone_laws::ttl::covered_type;
+use domain_zone_signed::Signatures;
 
 /// What a record has before its data.
 #[derive(Clone, Copy)]
@@ -116,27 +121,66 @@ pub(crate) fn push_cname<Target: Composer>(
     push_record(message, section, head, &octets[..len])
 }
 
-/// Pushes an RRset, if there is one, as the first of its section, whole or not at all. Returns whether none was left
-/// out.
-pub(crate) fn push_first<Target: Composer>(
+/// What an RRSIG record of these has before its data.
+fn signature_head<'a>(class: Class, signatures: Signatures<'a>) -> Head<'a>
+    ensures { (d : List ℕ) → headed_record result d
+        ≡ record_of (class_number class) (signatures_view signatures.entry) d }
+{
+    Head {
+        owner: signatures.owner(),
+        rtype: 46,
+        class,
+        ttl: signatures.ttl(),
+    }
+}
+
+/// Pushes the RRSIG record with these data, if it covers the type. Returns whether it wasn't refused.
+fn push_signature<Target: Composer>(
     message: &mut MessageBuilder<Target>,
     section: Section,
     class: Class,
-    set: Option<SectionRrset<'_>>,
+    signatures: Signatures<'_>,
+    octets: &[u8],
 ) -> bool
-    ensures pushed { IsTrue result → FillsRecords section
-        (all_records (class_number class) (section_list set.entry)) message.old message.new }
-    ensures stops { IsFalse result → StopsPushing section (class_number class)
-        (section_list set.entry) message.old message.new }
+    ensures pushed { IsTrue result → GainsRecords section
+        (map (record_of (class_number class) (signatures_view signatures.entry))
+        (filter (covers (signatures_type signatures.entry)) (octets.now ∷ [])))
+        message.old message.new }
+    ensures refused { IsFalse result → state message.new ≡ state message.old }
+    ensures why { IsFalse result → (covers (signatures_type signatures.entry) octets.now ≡ true)
+        × RecordCannotBeAdded section
+        (record_of (class_number class) (signatures_view signatures.entry) octets.now)
+        message.old }
     ensures capacity { target_room message.old ≤ target_room message.new }
 {
-    let Some(set) = set else {
-        return true;
-    };
-    let pushed = push_rrset(message, section, class, set);
-    if pushed {
+    if covered_type(octets) != signatures.covered() {
         return true;
     }
-    message.rewind(section);
-    false
+    push_record(message, section, signature_head(class, signatures), octets)
+}
+
+/// Pushes the RRSIG records that cover an RRset, up to the first that is refused. Returns whether all were pushed.
+pub(crate) fn push_signatures<Target: Composer>(
+    message: &mut MessageBuilder<Target>,
+    section: Section,
+    class: Class,
+    signatures: Signatures<'_>,
+) -> bool
+    ensures pushed { IsTrue result → GainsRecords section
+        (records_of (class_number class) (signatures_view signatures.entry))
+        message.old message.new }
+    ensures some { GainsSome section message.old message.new }
+    ensures why { IsFalse result → RrsetDoesNotFit section (class_number class)
+        (signatures_view signatures.entry) message.old }
+    ensures capacity { target_room message.old ≤ target_room message.new }
+{
+    let rdata = signatures.rdata();
+    for item in rdata {
+        let octets = item.as_slice();
+        let pushed = push_signature(message, section, class, signatures, octets);
+        if !pushed {
+            return false;
+        }
+    }
+    true
 }

@@ -1,17 +1,21 @@
 //! Which names above the one of a question exist: what the two RRsets beside its place tell.
-ghost use Rattle.std.specs.Prelude.{◌≡◌, ◌<◌, ◌≤◌, IsTrue, ◌↔◌, ℕ, List, length, slice_index_or};
+ghost use Rattle.std.specs.Prelude.{◌≡◌, ◌<◌, ◌≤◌, ◌++◌, IsTrue, ◌↔◌, ℕ, List};
+ghost use Rattle.std.specs.Prelude.{length, slice_index_or};
+ghost use Rattle.domain_list.specs.ChainParts.{left_part, right_part};
 ghost use Rattle.domain_list.specs.Ends.{EndsWith};
-ghost use Rattle.domain_name.specs.Names.{name_labels};
+ghost use Rattle.domain_name.specs.Names.{name_labels, relative_labels};
 ghost use Rattle.domain_zone.specs.Neighbours.{IsBeside};
 ghost use Rattle.domain_zone.specs.Records.{records_view};
 ghost use Rattle.domain_zone_laws.specs.Sorted.{IsSorted, IsPlace};
-ghost use Rattle.domain_zone_laws.specs.Zone.{RRset, IsZone, IsClosestEncloser};
+ghost use Rattle.domain_zone_laws.specs.Zone.{RRset, IsZone, Exists, IsClosestEncloser};
+ghost use Rattle.domain_zone_laws.specs.Zone.{source_of_synthesis};
 
 use crate::names::Owner;
-use domain_list::ToLabelIter;
 use domain_list::ends::ends_with_labels;
 use domain_list::laws::order_laws;
-use domain_name::{Name, SuffixIter};
+use domain_list::{Chain, ToLabelIter};
+use domain_name::{Name, RelativeName, SuffixIter};
+use domain_zone_laws::find::place_of;
 use domain_zone_laws::zone::ZoneRecords;
 
 /// Whether the RRset at an index is at or below a name.
@@ -69,4 +73,29 @@ pub(crate) fn closest_encloser<'q>(
         }
     }
     unreachable!()
+}
+
+/// A wildcard: an asterisk label before a name.
+pub type Wildcard<'q> = Chain<RelativeName<&'static [u8]>, Name<&'q [u8]>>;
+
+/// Returns the source of synthesis for a name in the zone that doesn't exist: an asterisk label before its closest
+/// encloser (RFC 4592, 3.3.1).
+///
+/// The wildcard may have no records, and it may not exist.
+pub fn source_of_synthesis<'q>(records: &ZoneRecords<Owner>, name: Name<&'q [u8]>) -> Wildcard<'q>
+    requires zone { IsZone (records_view records.now) }
+    requires sorted { IsSorted (records_view records.now) }
+    requires inside { EndsWith (name_labels name) (name_labels records.now.apex) }
+    requires missing { Exists (records_view records.now) (name_labels name) → ⊥ }
+    ensures { (e : List (List ℕ))
+        × IsClosestEncloser (records_view records.now) (name_labels name.entry) e
+        × (relative_labels (left_part result) ++ name_labels (right_part result)
+        ≡ source_of_synthesis e) }
+{
+    let place = place_of(records, &name, 0);
+    let encloser = closest_encloser(records, place, name);
+    let Ok(source) = Chain::new(RelativeName::wildcard_ref(), encloser) else {
+        unreachable!();
+    };
+    source
 }

@@ -17,14 +17,14 @@ returns-in-Err-answer_from-clause-why g c room =
 
 pub returns-in-Ok-finish_answer-clause-responds : goal.returns-in-Ok-finish_answer-clause-responds
 returns-in-Ok-finish_answer-clause-responds g c =
-    responds_answered _ _ _ _ c.args.server _ _ _ _ _ (message_octets c.in-Ok.query) c.args.query.now _ _ c.opt_of-asked.result _ _ _ _ _
+    responds_answered _ _ _ _ _ c.args.server _ _ _ _ _ (message_octets c.in-Ok.query) c.args.query.now _ _ c.opt_of-asked.result _ _ _ _ _
     (ap (λ b. b.now) c.in-Ok.ensures.ok) (ap class_number c.class.ensures) (tells_opt _ _ c.opt_of-asked.ensures.ok c.opt_of-asked.ensures.err) c.question_of-question.ensures (ap asked_fields c.in-Ok-question.is)
-    c.opt_for-opt.ensures c.upper_of.ensures c.limit_of.ensures c.header-in-Ok-question.ensures.id c.header-in-Ok-question.ensures.high
+    c.asks_dnssec.ensures c.opt_for-opt.ensures c.upper_of.ensures c.limit_of.ensures c.header-in-Ok-question.ensures.id c.header-in-Ok-question.ensures.high
     c.in-Ok-begin.ensures.begun c.in-Ok-begin.ensures.capacity c.answer_from.ensures.capacity c.in_default-answer_from.ensures.answers c.in-Ok-finish_answer.ensures.ok
 
 pub returns-in-Err-finish_answer-clause-why : goal.returns-in-Err-finish_answer-clause-why
 returns-in-Err-finish_answer-clause-why g c room =
-    lacks_opt _ _ _ _ _ c.args.server c.opt_of-asked.result _ (question_fields c.in-Ok-question.question) (opt_given c.opt_for-opt.result) _ _ _ _ _ _ (message_octets c.in-Ok.query) c.args.query.now _ _
+    lacks_opt _ _ _ _ _ _ c.args.server c.opt_of-asked.result _ (question_fields c.in-Ok-question.question) (opt_given c.opt_for-opt.result) _ _ _ _ _ _ (message_octets c.in-Ok.query) c.args.query.now _ _
     (ap (λ b. b.now) c.in-Ok.ensures.ok) (tells_opt _ _ c.opt_of-asked.ensures.ok c.opt_of-asked.ensures.err) c.question_of-question.ensures (ap asked_fields c.in-Ok-question.is) c.opt_for-opt.ensures c.limit_of.ensures
     c.in-Ok-begin.ensures.begun c.in-Ok-begin.ensures.capacity c.in_default-answer_from.ensures.answers c.answer_from.ensures.capacity c.in-Err-finish_answer.ensures.why
 

@@ -1,7 +1,7 @@
 use Rattle.std.proofs.Common.{refl}
-use Rattle.domain_zone_chain.specs.Views.{answer_view}
 use Rattle.domain_zone_response.proofs.Growing.{gains_both, sets_stop}
 use Rattle.domain_zone_response.proofs.sets.push_all.Goals as goal
+use Rattle.domain_zone_signed.specs.Views.{response_view}
 
 pub returns-then-not-pushed-clause-some : goal.returns-then-not-pushed-clause-some
 returns-then-not-pushed-clause-some g c =
@@ -10,5 +10,5 @@ returns-then-not-pushed-clause-some g c =
 
 pub returns-then-not-pushed-clause-stops : goal.returns-then-not-pushed-clause-stops
 returns-then-not-pushed-clause-stops g c within =
-    sets_stop _ _ _ answer_view c.args.sets.now c.loop-index.index c.index-sets-index.result _ _ _ _
+    sets_stop _ _ _ response_view c.args.sets.now c.loop-index.index c.index-sets-index.result _ _ _ _
     c.loop-index-test.true c.index-sets-index.is c.loop-index.invariant.room c.loop-index.invariant.gains (c.if-not-pushed.ensures.why refl)

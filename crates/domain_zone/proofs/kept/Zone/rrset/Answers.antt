@@ -1,5 +1,4 @@
 use Rattle.std.proofs.Common.{MatchOption, subst}
-use Rattle.domain_name.specs.Names.{name_labels}
 use Rattle.domain_zone.specs.Records.{set_view}
 use Rattle.domain_zone.proofs.kept.Zone.rrset.Goals as goal
 use Rattle.domain_zone_laws.specs.Zone.{Zone, HasType, IsAt}

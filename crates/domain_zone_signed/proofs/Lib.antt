@@ -1,0 +1,4 @@
+mod Covering
+mod Searching
+mod Signing
+mod OneSigned

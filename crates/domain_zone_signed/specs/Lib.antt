@@ -1,0 +1,3 @@
+pub mod Signing
+pub mod Views
+pub mod Laws
