@@ -4,7 +4,9 @@ pub mod Cutting
 pub mod Ending
 pub mod Finishing
 pub mod Marking
+pub mod Options
 pub mod Ordering
+pub mod Padding
 pub mod Pointing
 pub mod Pushing
 pub mod ReadingBack
