@@ -1,6 +1,6 @@
 -- How the TSIG record of a message is found.
 use Rattle.std.proofs.Common.{◌≡◌, ◌∙◌, ℕ, List, sym, ap, subst, inl, inr}
-use Rattle.std.specs.Prelude.{Bool, false, nat_eq, Option, Some, None, Result, Ok, Err}
+use Rattle.std.specs.Prelude.{Bool, false, nat_eq, Option, Some, Result, Err}
 use Rattle.octseq.specs.declared.octets.Octets.{Ghosts}
 use Rattle.octseq.specs.Parsing.{message, position}
 use Rattle.domain_wire.specs.declared.error.ParseError.{ParseError}

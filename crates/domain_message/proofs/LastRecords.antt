@@ -1,5 +1,5 @@
 -- The last record of a section.
-use Rattle.std.proofs.Common.{◌≡◌, ◌⊎◌, ℕ, ◌+◌, ◌<◌, List, length, sym, ap, subst, arith, inl, inr, ◌∙◌}
+use Rattle.std.proofs.Common.{◌≡◌, ℕ, ◌+◌, ◌<◌, List, sym, ap, subst, arith, ◌∙◌}
 use Rattle.octseq.specs.Parsing.{message, position}
 use Rattle.octseq.specs.declared.parse.Parser.{Parser}
 use Rattle.domain_header.specs.Numbers.{number16}
@@ -8,7 +8,7 @@ use Rattle.domain_message.specs.Entries.{RecordAt, NoRecord}
 use Rattle.domain_message.specs.LastRecords.{IsLastAt, IsLastRecord, LacksRecord}
 use Rattle.domain_message.specs.ParserFacts.{same_message}
 use Rattle.domain_message.specs.RecordModel.{record_fields}
-use Rattle.domain_message.specs.Sections.{Run, Lacks, Begins, entries_left, records_message, records_offset, records_left}
+use Rattle.domain_message.specs.Sections.{Run, Lacks, Begins, entries_left, records_offset, records_left}
 use Rattle.domain_message.specs.declared.record.ParsedRecord.{ParsedRecord}
 use Rattle.domain_message.specs.declared.section.RecordSection.{RecordSection}
 use Rattle.domain_message.specs.declared.section.Section.TheVariants.{Additional}

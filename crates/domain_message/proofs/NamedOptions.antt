@@ -1,5 +1,5 @@
 -- What the first option of a code says is what it is read as.
-use Rattle.std.proofs.Common.{◌≡◌, ◌≢◌, ◌<◌, ℕ, List, [], length, sym, ap, subst, inl, inr}
+use Rattle.std.proofs.Common.{◌≡◌, ◌≢◌, ◌<◌, ℕ, List, [], length, ap, subst, inl, inr}
 use Rattle.std.specs.Prelude.{Option, Some, None, Result, Ok, Err, IfOk, IfErr}
 use Rattle.domain_wire.specs.Refusals.{Refusal, refusal}
 use Rattle.domain_wire.specs.declared.error.ParseError.{ParseError}
@@ -31,12 +31,12 @@ finds_cut code octets rest passes some ends = (rest, passes, some, ends)
 -- ---- and what it says
 
 pub says_first : {A E : Type 0} (r : Result (Option A) E) (code : ℕ) (Says : List ℕ → A → Type 0) (octets : List ℕ) (option : EdnsOption) → FindsOption code octets (Some option) → IfOk r (ReadAs code Says option) → IfOk r (FirstSays code Says octets)
-says_first (Ok None) code Says octets option found read = absurd (read (sym found.0))
+says_first (Ok None) code Says octets option found read = absurd (read found.0)
 says_first (Ok (Some it)) code Says octets option found read = (option.«data».now, found.1, read.1)
 says_first (Err e) code Says octets option found read = read
 
 pub says_option : {A : Type 0} (r : Option A) (code : ℕ) (Says : List ℕ → A → Type 0) (octets : List ℕ) (option : EdnsOption) → FindsOption code octets (Some option) → ReadAs code Says option r → FirstSays code Says octets r
-says_option None code Says octets option found read = absurd (read (sym found.0))
+says_option None code Says octets option found read = absurd (read found.0)
 says_option (Some it) code Says octets option found read = (option.«data».now, found.1, read.1)
 
 pub fails_first : {A : Type 0} (r : Result A ParseError) (code : ℕ) (IsFault : List ℕ → Refusal → Type 0) (octets : List ℕ) (option : EdnsOption) → FindsOption code octets (Some option) → IfErr r (NotReadAs code IsFault option) → IfErr r (FirstFails code IsFault octets)

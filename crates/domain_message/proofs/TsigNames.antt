@@ -1,5 +1,5 @@
 -- A name that was read at the front of octets.
-use Rattle.std.proofs.Common.{◌≡◌, ℕ, ◌+◌, List, ◌++◌, length, drop, refl, sym, ap, subst, arith, ◌∙◌}
+use Rattle.std.proofs.Common.{◌≡◌, ℕ, List, ◌++◌, length, drop, sym, ap, arith, ◌∙◌}
 use Rattle.std.proofs.Math.Seq.{drop-append_seam}
 use Rattle.domain_flat.specs.Flat.{NameAt}
 use Rattle.domain_label.specs.Wire.{wire}

@@ -40,7 +40,7 @@ pub data IsCookieFault (n : ℕ) (why : Refusal) : Type 0 where
 -- The client's cookie has 8 octets, and the server's, if there is one, 8 to 32.
 abbrev pub HaveLengths : {S : Type 0} → (S → List ℕ) → List ℕ → Option S → Type 0
 HaveLengths octets_of client None = length client ≡ 8
-HaveLengths octets_of client (Some server) = (length client ≡ 8) × (8 ≤ length (octets_of server)) × (length (octets_of server) ≤ 32)
+HaveLengths octets_of client (Some it) = (length client ≡ 8) × (8 ≤ length (octets_of it)) × (length (octets_of it) ≤ 32)
 
 -- The client's cookie has another length, or else the server's has.
 pub data IsLengthFault {S : Type 0} (octets_of : S → List ℕ) (client : List ℕ) (server : Option S) (why : Refusal) : Type 0 where
@@ -92,7 +92,7 @@ pub data IsAddressFault (source : ℕ) (address : List ℕ) (why : Refusal) : Ty
 
 -- the octet of an address that has some of its first bits and others, with these others zero
 abbrev pub cut_octet : List ℕ → ℕ → Option ℕ
-cut_octet address bits = if nat_eq (bits % 8) 0 then None else Some (slice_index address (bits / 8) / 2 ^ (8 - bits % 8) * 2 ^ (8 - bits % 8))
+cut_octet address source = if nat_eq (source % 8) 0 then None else Some (slice_index address (source / 8) / 2 ^ (8 - source % 8) * 2 ^ (8 - source % 8))
 
 -- these octets, and after them one more, if there is one
 abbrev pub with_last : List ℕ → Option ℕ → List ℕ
@@ -101,7 +101,7 @@ with_last octets (Some last) = octets ++ last ∷ []
 
 -- the first bits of an address, in as few octets as have them, which end in zeros (RFC 7871, 6)
 abbrev pub cut_bits : List ℕ → ℕ → List ℕ
-cut_bits address bits = with_last (take (bits / 8) address) (cut_octet address bits)
+cut_bits address source = with_last (take (source / 8) address) (cut_octet address source)
 
 -- Why an address of this family can't be cut to so many bits: they can't be told of it, or it has fewer.
 pub data IsCutFault (family source : ℕ) (address : List ℕ) (why : Refusal) : Type 0 where

@@ -1,5 +1,5 @@
 -- What options say about the transport: how long a connection stays open, and octets that only make a message longer.
-use Rattle.std.specs.Prelude.{◌≡◌, ◌≢◌, ℕ, ◌<◌, List, [], length, codes, Option, Some, None}
+use Rattle.std.specs.Prelude.{◌≡◌, ℕ, ◌<◌, List, [], length, codes, Option, Some, None}
 use Rattle.domain_header.specs.Numbers.{number16}
 use Rattle.domain_wire.specs.Refusals.{Refusal}
 use Rattle.domain_wire.specs.Refusals.Refusal.{short_input, form}

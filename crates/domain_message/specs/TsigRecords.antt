@@ -1,5 +1,5 @@
 -- The TSIG record of a message (RFC 8945, 4.2 and 5.1).
-use Rattle.std.specs.Prelude.{◌≡◌, ◌⊎◌, ℕ, ◌<◌, Bool, nat_eq, codes, List, Option, Some, None}
+use Rattle.std.specs.Prelude.{◌⊎◌, ℕ, ◌<◌, Bool, nat_eq, codes, List, Option, Some, None}
 use Rattle.octseq.specs.declared.octets.Octets.{Ghosts}
 use Rattle.domain_wire.specs.Refusals.{refusal, refusal_text}
 use Rattle.domain_header.specs.Numbers.{number16}

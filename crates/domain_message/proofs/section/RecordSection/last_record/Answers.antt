@@ -5,4 +5,4 @@ pub loop-record-init : goal.loop-record-init
 loop-record-init c = skipped_none _ _
 
 pub loop-record-preserved : goal.loop-record-preserved
-loop-record-preserved c = skipped_more _ _ _ _ _ _ c.loop-record.invariant c.in_default-parse.ensures.ok c.in_default-parse.ensures.moves
+loop-record-preserved c = skipped_more _ _ _ _ _ _ c.loop-record.invariant c.in_default.ensures.ok c.in_default.ensures.moves
