@@ -1,4 +1,5 @@
 pub mod Blank
+pub mod Blocks
 pub mod Composing
 pub mod Cutting
 pub mod Ending
@@ -6,7 +7,6 @@ pub mod Finishing
 pub mod Marking
 pub mod Options
 pub mod Ordering
-pub mod Padding
 pub mod Pointing
 pub mod Pushing
 pub mod ReadingBack

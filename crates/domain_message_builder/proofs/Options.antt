@@ -1,22 +1,19 @@
 -- Options that are pushed are read back.
-use Rattle.std.proofs.Common.{◌≡◌, ℕ, ◌+◌, ◌-◌, ◌*◌, ◌/◌, ◌%◌, ◌^◌, ◌<◌, ◌≤◌, List, [], ◌∷◌, ◌++◌, length, take, drop, get_or, slice_index, refl, sym, ap, subst, arith, ◌∙◌, length-append, append-nil, suc, eqb-true}
+use Rattle.std.proofs.Common.{◌≡◌, ℕ, ◌+◌, ◌-◌, ◌*◌, ◌/◌, ◌%◌, ◌^◌, ◌<◌, ◌≤◌, List, [], ◌∷◌, ◌++◌, length, take, drop, slice_index, refl, sym, ap, subst, arith, ◌∙◌, length-append, append-nil, suc, eqb-true}
 use Rattle.std.proofs.Math.Nat.{mul-mod_left, div-add-mod, mul_comm}
 use Rattle.std.proofs.Math.Seq.{take-append_seam, drop-append_seam, drop-append-add, get_or-append_seam}
 use Rattle.std.proofs.lemmas.List.{take-append-le, drop-append-le, length-drop, length-take-le, take_more, take_all}
 use Rattle.std.proofs.lemmas.Bool.{eqb-false}
 use Rattle.std.proofs.lemmas.Nat.{from_be_bytes-to_be_bytes_2}
 use Rattle.std.specs.Int.{w16, to_be_bytes, from_be_bytes}
-use Rattle.std.specs.Prelude.{Bool, true, false, nat_eq, if◌then◌else◌, slice_range, ⊤, Option, None, Some, Result, Ok, Err, OnOk, IfErr}
+use Rattle.std.specs.Prelude.{Bool, true, false, nat_eq, if◌then◌else◌, slice_range, Option, None, Some}
 use Rattle.domain_header.specs.Numbers.{number16}
 use Rattle.domain_message.specs.FirstOptions.{PassesOthers, HasNoOption, IsFirstOption}
 use Rattle.domain_message.specs.FirstOptions.PassesOthers.{at_once, after_one}
-use Rattle.domain_message.specs.KnownOptions.{HaveLengths, IsCookie, IsPrefix, octets_of_prefix, EndsInZeros, IsAddress, cut_bits, cut_octet, with_last, IsClientSubnet, IsExtendedError}
+use Rattle.domain_message.specs.KnownOptions.{HaveLengths, IsCookie, IsPrefix, octets_of_prefix, IsAddress, cut_bits, with_last, IsClientSubnet, IsExtendedError}
 use Rattle.domain_message.specs.Options.{BeginsWithOption}
-use Rattle.domain_wire.specs.Refusals.{Refusal}
-use Rattle.domain_message_builder.specs.NamedOptions.{cookies, subnet, NamedRefused}
-use Rattle.domain_message_builder.specs.Opt.{Opt, option_octets, with_option}
-use Rattle.domain_message_builder.specs.declared.error.PushOptionError.{PushOptionError}
-use Rattle.domain_message_builder.specs.declared.error.PushOptionError.TheVariants.{Append, Long, Form}
+use Rattle.domain_message_builder.specs.NamedOptions.{cookies, subnet}
+use Rattle.domain_message_builder.specs.Opt.{option_octets}
 
 -- ---- octets that more octets follow
 
@@ -138,39 +135,3 @@ pub error_read : (info_code : ℕ) (text : List ℕ) → info_code < 2 ^ 16 → 
 error_read info_code text small =
     let size : length (to_be_bytes w16 info_code ++ text) ≡ suc (suc (length text)) = refl in
     record { whole = omega (arith, size); code_is = sym (from_be_bytes-to_be_bytes_2 info_code small); text_is = refl }
-
--- ---- why an option wasn't pushed
-
-pub sound_refused : {A E : Type 0} (r : Result A (PushOptionError E)) (AtFault : Refusal → Type 0) (Sound : Type 0) (options data_octets : List ℕ) (capacity : ℕ) → Sound
-    → IfErr r (λ e. NamedRefused (λ why. ⊥) ⊤ options data_octets capacity e) → IfErr r (λ e. NamedRefused AtFault Sound options data_octets capacity e)
-sound_refused (Ok x) AtFault Sound options data_octets capacity sound why = why
-sound_refused (Err (Append e)) AtFault Sound options data_octets capacity sound why = (sound, why.1)
-sound_refused (Err (Long e)) AtFault Sound options data_octets capacity sound why = (sound, why.1)
-sound_refused (Err (Form e)) AtFault Sound options data_octets capacity sound why = absurd why
-
--- It is sound where it was pushed.
-pub sound_if : {A E : Type 0} (r : Result A E) (Sound : Type 0) → Sound → OnOk r Sound
-sound_if (Ok x) Sound sound = sound
-sound_if (Err e) Sound sound = tt
-
--- ---- the parts of an option are what it says
-
-pub pushed_as : {A E : Type 0} (r : Result A E) (o old : Opt) (code : ℕ) (x y : List ℕ) → x ≡ y → OnOk r (o ≡ with_option code x old) → OnOk r (o ≡ with_option code y old)
-pushed_as r o old code x y same pushed = subst (λ z. OnOk r (o ≡ with_option code z old)) same pushed
-
-pub refused_as : {A E : Type 0} (r : Result A (PushOptionError E)) (AtFault : Refusal → Type 0) (Sound : Type 0) (options x y : List ℕ) (capacity : ℕ) → x ≡ y → Sound
-    → IfErr r (λ e. NamedRefused (λ why. ⊥) ⊤ options x capacity e) → IfErr r (λ e. NamedRefused AtFault Sound options y capacity e)
-refused_as r AtFault Sound options x y capacity same sound why =
-    subst (λ z. IfErr r (λ e. NamedRefused AtFault Sound options z capacity e)) same (sound_refused r AtFault Sound options x capacity sound why)
-
-pub subnet_whole : (a b family source scope : ℕ) (whole address : List ℕ) → a ∷ b ∷ [] ≡ to_be_bytes w16 family → whole ≡ take (source / 8) address → None ≡ cut_octet address source
-    → a ∷ b ∷ source ∷ scope ∷ whole ≡ subnet family source scope address
-subnet_whole a b family source scope whole address head is last =
-    ap (λ h. h ++ (source ∷ scope ∷ whole)) head
-    ∙ ap (λ c. to_be_bytes w16 family ++ (source ∷ scope ∷ c)) (is ∙ ap (λ l. with_last (take (source / 8) address) l) last)
-
-pub subnet_cut : (a b family source scope octet : ℕ) (whole address : List ℕ) → a ∷ b ∷ [] ≡ to_be_bytes w16 family → whole ≡ take (source / 8) address → Some octet ≡ cut_octet address source
-    → a ∷ b ∷ source ∷ scope ∷ (whole ++ octet ∷ []) ≡ subnet family source scope address
-subnet_cut a b family source scope octet whole address head is last =
-    ap (λ h. h ++ (source ∷ scope ∷ (whole ++ octet ∷ []))) head
-    ∙ ap (λ c. to_be_bytes w16 family ++ (source ∷ scope ∷ c)) (ap (λ w. w ++ octet ∷ []) is ∙ ap (λ l. with_last (take (source / 8) address) l) last)

@@ -1,5 +1,5 @@
 -- The statements of the laws of options, for callers.
-use Rattle.std.specs.Prelude.{◌≡◌, ℕ, ◌+◌, ◌^◌, ◌<◌, ◌≤◌, List, ◌++◌, length, Some}
+use Rattle.std.specs.Prelude.{◌≡◌, ℕ, ◌^◌, ◌<◌, ◌≤◌, List, ◌++◌, length, Some}
 use Rattle.std.specs.Int.{w16, to_be_bytes}
 use Rattle.domain_message.specs.FirstOptions.{HasNoOption, IsFirstOption}
 use Rattle.domain_message.specs.KnownOptions.{IsPrefix, octets_of_prefix, cut_bits, IsAddress, IsClientSubnet, IsExtendedError}
