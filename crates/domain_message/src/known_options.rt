@@ -154,7 +154,8 @@ impl<'a> Cookie<'a> {
         let Some(server) = self.server else {
             return Ok(());
         };
-        if server.len() < 8 || server.len() > 32 {
+        let len = server.len();
+        if len < 8 || len > 32 {
             return Err(ParseError::form_error("server cookie of a wrong length"));
         }
         Ok(())
