@@ -31,13 +31,13 @@ use Rattle.std.proofs.cell.Inside.{Good}
 use Rattle.std.proofs.BoxSteps.Form as box
 use Rattle.std.proofs.BoxSteps.Steps.{box_out, box_in}
 use Rattle.std.proofs.raw_atomic.Walks.{proved_at, leaves}
-use Rattle.domain_zone_slot.proofs.Values.{both, Loose, loose_good, loose_out}
+use Rattle.dnsnames_zone_c.proofs.Values.{both, Loose, loose_good, loose_out}
 use Rattle.std.specs.contracts.boxed.Box.from_raw as callee
 use Rattle.std.proofs.boxed.Box.from_raw.Met.{met}
-use Rattle.domain_zone_slot.specs.contracts.loose.Loose.into_box.{ended, clauses}
-use Rattle.domain_zone_slot.specs.contracts.loose.Loose.into_box.Key.{name as #self}
-use Rattle.domain_zone_slot.proofs.loose.Loose.into_box.Statement.{statement}
-use Rattle.domain_zone_slot.proofs.loose.Loose.into_box.Code as code
+use Rattle.dnsnames_zone_c.specs.contracts.loose.Loose.into_box.{ended, clauses}
+use Rattle.dnsnames_zone_c.specs.contracts.loose.Loose.into_box.Key.{name as #self}
+use Rattle.dnsnames_zone_c.proofs.loose.Loose.into_box.Statement.{statement}
+use Rattle.dnsnames_zone_c.proofs.loose.Loose.into_box.Code as code
 
 pub into_box_spec : {M : Type 1} → statement M
 into_box_spec 𝓤 𝓛 𝓜 𝓡 wired T A L LA g d dx dd allocator glue glued =

@@ -33,13 +33,13 @@ use Rattle.std.specs.contracts.alloc.Global as heap
 use Rattle.std.specs.contracts.impls.GlobalAllocator.TheImpl.{ghosts}
 use Rattle.std.specs.declared.option.Option.TheVariants.{None, Some}
 use Rattle.domain_zone.specs.contracts.kept.Zone as zone
-use Rattle.domain_zone_slot.specs.contracts.slot.ZoneSlot as slot
-use Rattle.domain_zone_slot.specs.contracts.slot.ZoneSlot.into_loose.{ended, clauses}
-use Rattle.domain_zone_slot.specs.contracts.slot.ZoneSlot.into_loose.Key.{name as #self}
-use Rattle.domain_zone_slot.proofs.Slots.{either, ptr_good, word, word_good, slot_out}
-use Rattle.domain_zone_slot.proofs.Values.{both, al, Loose, loose_good, loose_in}
-use Rattle.domain_zone_slot.proofs.slot.ZoneSlot.into_loose.Statement.{statement}
-use Rattle.domain_zone_slot.proofs.slot.ZoneSlot.into_loose.Code as code
+use Rattle.dnsnames_zone_c.specs.contracts.slot.ZoneSlot as slot
+use Rattle.dnsnames_zone_c.specs.contracts.slot.ZoneSlot.into_loose.{ended, clauses}
+use Rattle.dnsnames_zone_c.specs.contracts.slot.ZoneSlot.into_loose.Key.{name as #self}
+use Rattle.dnsnames_zone_c.proofs.Slots.{either, ptr_good, word, word_good, slot_out}
+use Rattle.dnsnames_zone_c.proofs.Values.{both, al, Loose, loose_good, loose_in}
+use Rattle.dnsnames_zone_c.proofs.slot.ZoneSlot.into_loose.Statement.{statement}
+use Rattle.dnsnames_zone_c.proofs.slot.ZoneSlot.into_loose.Code as code
 
 pub into_loose_spec : {M : Type 1} → statement M
 into_loose_spec 𝓤 𝓛 𝓜 𝓡 wired =

@@ -26,8 +26,8 @@ use Rattle.std.specs.declared.option.Option.{Option}
 use Rattle.std.specs.declared.option.Option.TheVariants.{None, Some}
 use Rattle.domain_zone.specs.contracts.kept.Zone as zone
 use Rattle.domain_zone.specs.declared.kept.Zone.{Zone}
-use Rattle.domain_zone_slot.specs.Slots.{slot_owns}
-use Rattle.domain_zone_slot.specs.contracts.slot.ZoneSlot as slot
+use Rattle.dnsnames_zone_c.specs.Slots.{slot_owns}
+use Rattle.dnsnames_zone_c.specs.contracts.slot.ZoneSlot as slot
 
 abbrev pub word : Ptr → ℕ → Val
 word p n = vstruct (vcons (ptr_val p) (vcons (vint w64 n) vnil))

@@ -15,11 +15,11 @@ use Rattle.std.proofs.raw_atomic.Walks.{proved}
 use Rattle.std.specs.declared.option.Option.{Option}
 use Rattle.std.specs.declared.option.Option.TheVariants.{None}
 use Rattle.domain_zone.specs.declared.kept.Zone.{Zone}
-use Rattle.domain_zone_slot.specs.contracts.slot.ZoneSlot as slot
-use Rattle.domain_zone_slot.specs.contracts.slot.ZoneSlot.empty as f
-use Rattle.domain_zone_slot.proofs.Slots.{word, word_good, slot_in}
-use Rattle.domain_zone_slot.proofs.slot.ZoneSlot.empty.Statement.{statement}
-use Rattle.domain_zone_slot.proofs.slot.ZoneSlot.empty.Code as code
+use Rattle.dnsnames_zone_c.specs.contracts.slot.ZoneSlot as slot
+use Rattle.dnsnames_zone_c.specs.contracts.slot.ZoneSlot.empty as f
+use Rattle.dnsnames_zone_c.proofs.Slots.{word, word_good, slot_in}
+use Rattle.dnsnames_zone_c.proofs.slot.ZoneSlot.empty.Statement.{statement}
+use Rattle.dnsnames_zone_c.proofs.slot.ZoneSlot.empty.Code as code
 
 abbrev stayed : Stays f.ended.signature.params f.ended.kept
 stayed = (stay_dropped (plain (λ _. RawPtr)) yes, tt)

@@ -1,15 +1,15 @@
 //! A slot for a zone.
-ghost use Rattle.std.specs.Prelude.{◌≡◌, IfOk};
+ghost use Rattle.std.specs.Prelude.{◌≡◌};
 ghost use Rattle.std.specs.Coded.{coded_option};
 ghost use Rattle.std.specs.declared.option.Option.{Option};
 ghost use Rattle.std.specs.declared.option.Option.TheVariants.{None, Some};
 ghost use Rattle.domain_zone.specs.contracts.kept.Zone.{the_row};
 ghost use Rattle.domain_zone.specs.declared.kept.Zone.{Zone as Held};
-ghost use Rattle.domain_zone_slot.specs.Slots.{boxed_zone, loose_zone, slot_owns};
+ghost use Rattle.dnsnames_zone_c.specs.Slots.{boxed_zone, loose_zone, slot_owns};
 
 use crate::loose::Loose;
 use domain_zone::Zone;
-use std::alloc::{AllocError, Global};
+use std::alloc::Global;
 use std::marker::Model;
 use std::mem::replace;
 use std::ptr::null_mut;
@@ -20,10 +20,10 @@ use std::ptr::null_mut;
 /// forget the first.
 #[repr(C)]
 #[derive(Drop)]
-pub struct ZoneSlot {
+pub(crate) struct ZoneSlot {
     at: *mut u8,
     full: usize,
-    pub ghost held: { Option Held } by { coded_option the_row.coded },
+    pub(crate) ghost held: { Option Held } by { coded_option the_row.coded },
 }
 
 /// Returns a null pointer.
@@ -70,7 +70,7 @@ impl ZoneSlot {
     }
 
     /// Takes the zone out, if the slot holds one. It then holds none.
-    pub fn take(&mut self, alloc: Global) -> Option<Box<Zone>>
+    pub(crate) fn take(&mut self, alloc: Global) -> Option<Box<Zone>>
         ensures taken { boxed_zone result ≡ self.old.held }
         ensures none { self.new.held ≡ None }
     {
@@ -82,21 +82,9 @@ impl ZoneSlot {
     }
 
     /// Puts a zone into the slot. One that it holds is forgotten, and its memory isn't freed: take it out first.
-    pub fn put(&mut self, zone: Box<Zone>)
+    pub(crate) fn put(&mut self, zone: Box<Zone>)
         ensures { self.new.held ≡ Some zone.value }
     {
         *self = ZoneSlot::of(Loose::of(zone));
-    }
-
-    /// Returns a slot that holds a zone.
-    ///
-    /// # Errors
-    ///
-    /// An allocation failed.
-    pub fn holding(alloc: Global, zone: Zone) -> Result<ZoneSlot, AllocError>
-        ensures { IfOk result (λ slot. slot.held ≡ Some zone) }
-    {
-        let zone = Box::new(alloc, zone)?;
-        Ok(ZoneSlot::of(Loose::of(zone)))
     }
 }

@@ -10,7 +10,7 @@ use base.Fml.{Fml, ffalse, feq, fex}
 use denote.RawPtr.{Ptr}
 use Rattle.domain_zone.specs.contracts.kept.Zone as zone
 use Rattle.domain_zone.specs.declared.kept.Zone.{Zone}
-use Rattle.domain_zone_slot.specs.declared.loose.Loose.{Loose}
+use Rattle.dnsnames_zone_c.specs.declared.loose.Loose.{Loose}
 
 -- the zone at a pointer, and the right to free its block
 abbrev pub zone_at : Ptr → Zone → Fml

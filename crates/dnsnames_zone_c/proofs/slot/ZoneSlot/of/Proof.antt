@@ -26,13 +26,13 @@ use Rattle.std.specs.contracts.impls.GlobalAllocator.TheImpl.{ghosts}
 use Rattle.std.specs.declared.alloc.Global.{Global}
 use Rattle.std.specs.declared.option.Option.TheVariants.{Some}
 use Rattle.domain_zone.specs.contracts.kept.Zone as zone
-use Rattle.domain_zone_slot.specs.contracts.slot.ZoneSlot as slot
-use Rattle.domain_zone_slot.specs.contracts.slot.ZoneSlot.of.{ended, clauses}
-use Rattle.domain_zone_slot.specs.contracts.slot.ZoneSlot.of.Key.{name as #self}
-use Rattle.domain_zone_slot.proofs.Slots.{word, word_good, slot_in}
-use Rattle.domain_zone_slot.proofs.Values.{both, Loose, loose_good, loose_out}
-use Rattle.domain_zone_slot.proofs.slot.ZoneSlot.of.Statement.{statement}
-use Rattle.domain_zone_slot.proofs.slot.ZoneSlot.of.Code as code
+use Rattle.dnsnames_zone_c.specs.contracts.slot.ZoneSlot as slot
+use Rattle.dnsnames_zone_c.specs.contracts.slot.ZoneSlot.of.{ended, clauses}
+use Rattle.dnsnames_zone_c.specs.contracts.slot.ZoneSlot.of.Key.{name as #self}
+use Rattle.dnsnames_zone_c.proofs.Slots.{word, word_good, slot_in}
+use Rattle.dnsnames_zone_c.proofs.Values.{both, Loose, loose_good, loose_out}
+use Rattle.dnsnames_zone_c.proofs.slot.ZoneSlot.of.Statement.{statement}
+use Rattle.dnsnames_zone_c.proofs.slot.ZoneSlot.of.Code as code
 
 pub of_spec : {M : Type 1} → statement M
 of_spec 𝓤 𝓛 𝓜 𝓡 wired =
