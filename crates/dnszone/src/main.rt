@@ -1,20 +1,20 @@
 //! Reads the text of a zone from standard input. `dnszone check` prints its records in canonical order, or why they
-//! are no zone. `dnszone ask NAME TYPE` prints the response to a question, `dnszone answer QUERY..` the messages
-//! that answer queries.
+//! are no zone. `dnszone ask NAME TYPE` prints the message that answers a question, `dnszone answer QUERY..` in
+//! hexadecimal digits those that answer queries.
 //!
 //! README.md lists what is read and printed.
 #![tactic(auto)]
 
 mod answer;
-mod load;
+mod ask;
 mod print;
 mod reasons;
-mod response;
+mod zone;
 
 use crate::answer::{octets_of, put_answer};
-use crate::load::{LoadError, load};
+use crate::ask::put_response;
 use crate::print::{Front, put_record};
-use crate::response::put_response;
+use crate::zone::{TextFault, zone_of};
 use domain_builder::FromStrError;
 use domain_header::Class;
 use domain_message::rtype_from_text;
@@ -25,6 +25,7 @@ use domain_tool::tool::{ToolError, read_all};
 use domain_zone::{Owner, Zone};
 use domain_zone_laws::ttl::record_ttl;
 use domain_zone_laws::zone::Rrset;
+use domain_zone_load::LoadError;
 use domain_zone_response::Transport;
 use std::alloc::{AllocError, Global};
 use std::io::{Read, Write};
@@ -41,18 +42,18 @@ pub enum Failure {
     /// The words aren't those of the usage.
     Usage,
     /// The text is that of no zone.
-    NoZone(LoadError),
+    NoZone(TextFault),
     /// An allocation failed.
     Memory,
     /// Reading or writing failed.
     Stream,
 }
 
-impl From<LoadError> for Failure {
-    fn from(error: LoadError) -> Failure {
-        match error {
-            LoadError::Memory => Failure::Memory,
-            _ => Failure::NoZone(error),
+impl From<TextFault> for Failure {
+    fn from(fault: TextFault) -> Failure {
+        match fault {
+            TextFault::Load(LoadError::Memory) => Failure::Memory,
+            _ => Failure::NoZone(fault),
         }
     }
 }
@@ -149,13 +150,13 @@ fn shown<R: Read>(alloc: Global, words: &[&str], input: &mut R) -> Result<Vec<u8
         Err(ToolError::Memory) => return Err(Failure::Memory),
         Err(_) => return Err(Failure::Stream),
     };
-    let zone = load(alloc, text.as_slice())?;
+    let zone = zone_of(alloc, text.as_slice())?;
     let mut out = Vec::new(alloc);
     match &asked {
         Asked::Records => put_zone(alloc, &zone, &mut out)?,
         Asked::Response(name, rtype, dnssec_ok) => {
             let name = name.for_slice();
-            put_response(alloc, &zone, &name, *rtype, *dnssec_ok, &mut out)?;
+            put_response(alloc, &zone, name, *rtype, *dnssec_ok, &mut out)?;
         }
         Asked::Messages(transport, queries) => {
             for query in queries.as_slice() {
