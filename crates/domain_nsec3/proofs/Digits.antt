@@ -1,0 +1,41 @@
+-- Octets in digits, five octets at a time.
+use Rattle.std.proofs.Common.{◌≡◌, ◌∙◌, ℕ, ◌+◌, ◌-◌, ◌*◌, ◌≤◌, ◌<◌, suc, List, [], ◌∷◌, ◌++◌, length, take, drop, get_or, refl, sym, ap, append_assoc, append-nil, length-drop, arith}
+use borrow.Rule.Slice.PartMut.{put_mid}
+use Rattle.std.proofs.lemmas.List.{take_all}
+use Rattle.std.proofs.lemmas.Slice.{take-put_mid}
+use Rattle.domain_rdata_text.specs.Base32.{base32_text}
+use Rattle.domain_rdata_text.specs.Laws.{AreOctets}
+
+-- the first five octets
+five_first : (o : List ℕ) → 5 ≤ length o → base32_text o ≡ base32_text (get_or o 0 0 ∷ get_or o 1 0 ∷ get_or o 2 0 ∷ get_or o 3 0 ∷ get_or o 4 0 ∷ []) ++ base32_text (drop 5 o)
+five_first [] some = absurd (omega (arith, some))
+five_first (a ∷ []) some = absurd (omega (arith, some))
+five_first (a ∷ b ∷ []) some = absurd (omega (arith, some))
+five_first (a ∷ b ∷ c ∷ []) some = absurd (omega (arith, some))
+five_first (a ∷ b ∷ c ∷ d ∷ []) some = absurd (omega (arith, some))
+five_first (a ∷ b ∷ c ∷ d ∷ e ∷ o) some = refl
+
+-- a group more is written
+pub group_written : (label hash o digits : List ℕ) (at k n : ℕ) → 5 ≤ length o → at ≤ length label
+    → digits ≡ base32_text (get_or o 0 0 ∷ get_or o 1 0 ∷ get_or o 2 0 ∷ get_or o 3 0 ∷ get_or o 4 0 ∷ []) → length o - 5 ≤ n
+    → take at label ++ base32_text o ≡ base32_text hash → take (at + 8) (put_mid at k label digits) ++ base32_text (take n (drop 5 o)) ≡ base32_text hash
+group_written label hash o digits at k n some inside is many whole =
+    let eight : length digits ≡ 8 = ap length is in
+    let front : take (at + 8) (put_mid at k label digits) ≡ take at label ++ digits = take-put_mid at k label digits (at + 8) (omega (arith, eight)) inside in
+    let left : take n (drop 5 o) ≡ drop 5 o = take_all n (drop 5 o) (omega (arith, length-drop 5 o, many)) in
+    let next : base32_text o ≡ digits ++ base32_text (take n (drop 5 o)) =
+    five_first o some ∙ (ap (λ (x : List ℕ). x ++ base32_text (drop 5 o)) (sym is) ∙ ap (λ (x : List ℕ). digits ++ base32_text x) (sym left)) in
+    ap (λ (x : List ℕ). x ++ base32_text (take n (drop 5 o))) front
+    ∙ (append_assoc (take at label) digits (base32_text (take n (drop 5 o)))
+    ∙ (ap (λ (x : List ℕ). take at label ++ x) (sym next) ∙ whole))
+
+-- all is written where fewer octets are left
+pub all_written : (label hash o : List ℕ) (at : ℕ) → length label ≡ 32 → 5 * at + 8 * length o ≡ 160 → length o < 5 → take at label ++ base32_text o ≡ base32_text hash → label ≡ base32_text hash
+all_written label hash [] at long sum few whole =
+    sym (take_all at label (omega (arith, long, sum))) ∙ (sym (append-nil (take at label)) ∙ whole)
+all_written label hash (a ∷ o) at long sum few whole = absurd (omega (arith, sum, few))
+
+-- octets, seen by their places
+pub octets_each : (o : List ℕ) → ((i : ℕ) → get_or o i 0 < 256) → AreOctets o
+octets_each [] h = tt
+octets_each (c ∷ o) h = (h 0, octets_each o (λ i. h (suc i)))

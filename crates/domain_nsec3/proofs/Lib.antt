@@ -1,0 +1,4 @@
+pub mod Iterating
+pub mod Digits
+pub mod Groups
+pub mod Fields

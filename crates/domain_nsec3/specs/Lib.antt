@@ -1,0 +1,4 @@
+pub mod Hashing
+pub mod Labels
+pub mod Covering
+pub mod Records
