@@ -47,9 +47,11 @@ pub fn put_response(
 ) -> Result<(), AllocError> {
     let question = Question::new(name, rtype, zone.class());
     let query = query_for(alloc, &question, dnssec_ok)?;
+    // A query is always answered.
     let Some(message) = answer_to(alloc, zone, query.as_slice(), Transport::Stream)? else {
         return Ok(());
     };
+    // The message has all entries that its header counts, so only an allocation can fail.
     match write_message(message.as_slice(), out) {
         Ok(()) => Ok(()),
         Err(_) => Err(AllocError),

@@ -107,8 +107,8 @@ fn apex_of(alloc: Global, text: &[u8]) -> Result<(Owner, Class), TextFault> {
 ///
 /// # Errors
 ///
-/// The first fault of the text that `load` of `domain_zone_load` finds; `NoSoa` where no record of it is a SOA, and
-/// each entry before its end can be read.
+/// `NoSoa` where each entry can be read and none is a SOA. `Load` where an entry up to the first SOA can't be read or
+/// is `$INCLUDE`, and else with the error of `load` of `domain_zone_load`.
 pub fn zone_of(alloc: Global, text: &[u8]) -> Result<Zone, TextFault> {
     let (apex, class) = apex_of(alloc, text)?;
     match load(alloc, text, apex, class) {
