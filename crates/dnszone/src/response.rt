@@ -1,6 +1,6 @@
 //! A response as text.
 
-use crate::print::{Front, put, put_name, put_record};
+use crate::print::put;
 use domain_header::{Class, Rcode};
 use domain_message::RtypeText;
 use domain_name::Name;
@@ -11,6 +11,7 @@ use domain_zone_answer::{SectionRrset, SynthesizedCname, respond};
 use domain_zone_chain::{AnswerRrset, follow, names_of, respond_along};
 use domain_zone_laws::ttl::covered_type;
 use domain_zone_signed::{Questions, ResponseRrset, Signatures, SignedResponse, add_dnssec};
+use domain_zone_write::{Front, append_name, append_record};
 use std::alloc::{AllocError, Global};
 
 /// Appends the records of an RRset in a section.
@@ -27,7 +28,7 @@ fn put_set(
             class,
             rtype: set.rtype(),
         };
-        put_record(alloc, front, octets.as_slice(), out)?;
+        append_record(alloc, &front, octets.as_slice(), out)?;
     }
     Ok(())
 }
@@ -49,7 +50,7 @@ fn put_cname(
     let Ok(name) = target.to_vec(alloc) else {
         return Err(AllocError);
     };
-    put_record(alloc, front, name.as_slice(), out)
+    append_record(alloc, &front, name.as_slice(), out)
 }
 
 /// Appends the status and the flag.
@@ -81,7 +82,7 @@ fn put_question(
     out: &mut Vec<u8>,
 ) -> Result<(), AllocError> {
     put(alloc, "\n;; QUESTION SECTION:\n;", out)?;
-    put_name(alloc, name, out)?;
+    append_name(alloc, &name, out)?;
     out.push(b' ')?;
     put(alloc, class, out)?;
     out.push(b' ')?;
@@ -107,7 +108,7 @@ fn put_signatures(
             class,
             rtype: 46,
         };
-        put_record(alloc, front, octets.as_slice(), out)?;
+        append_record(alloc, &front, octets.as_slice(), out)?;
     }
     Ok(())
 }
