@@ -1,6 +1,6 @@
 -- RRsets that are alike are a zone, too.
-use Rattle.std.proofs.Common.{◌≡◌, ◌≢◌, ◌∙◌, ℕ, ◌<◌, ◌⊎◌, List, length, refl, sym, ap, subst, inl, inr, ⊎_elim}
-use Rattle.std.specs.List.{All, Contains}
+use Rattle.std.proofs.Common.{◌≡◌, ◌≢◌, ◌∙◌, ℕ, ◌<◌, List, length, sym, ap, subst, inl, inr, ⊎_elim}
+use Rattle.std.specs.List.{Contains}
 use Rattle.std.proofs.lemmas.List.Elements.{All-contains}
 use Rattle.domain_label.specs.Wire.{IsAbsoluteName}
 use Rattle.domain_list.proofs.AncestorLaws.{tells_apart}

@@ -10,7 +10,7 @@ use Rattle.domain_rdata_text.specs.Names.{name_text}
 use Rattle.domain_rdata_text.specs.Rtypes.{type_text}
 use Rattle.domain_rdata_text.specs.Texts.{data_text, data_words}
 use Rattle.domain_rdata_text.specs.Values.{Val}
-use Rattle.domain_rdata_text.specs.Words.{joined, spaced}
+use Rattle.domain_rdata_text.specs.Words.{joined}
 use Rattle.domain_zone.specs.Building.{Inserted}
 use Rattle.domain_zone_laws.specs.Zone.{Zone, RRset}
 use Rattle.domain_zone_text.specs.Lines.{Written, record_line, record_lines}

@@ -1,38 +1,37 @@
 -- The text of a zone is loaded as that zone.
 use Rattle.std.proofs.Common.{◌≡◌, ◌≢◌, ◌∙◌, ℕ, List, [], ◌∷◌, ◌++◌, map, Some, refl, sym, ap, subst, append-nil}
-use Rattle.std.specs.List.{All, AllByRecursion, AllZip, Contains}
+use Rattle.std.specs.List.{AllByRecursion, AllZip, Contains}
 use Rattle.std.proofs.lemmas.List.Elements.{All-contains, recursion_from_All}
-use Rattle.domain_header.specs.Values.{class_number}
 use Rattle.domain_label.proofs.WireLaws.{labels_in_wire}
 use Rattle.domain_label.specs.Wire.{wire, Root, IsAbsoluteName, labels_in}
 use Rattle.domain_list.specs.Ends.{EndsWith}
 use Rattle.domain_zone.proofs.Good.{faultless}
 use Rattle.domain_zone.proofs.Had.{canonical_had}
 use Rattle.domain_zone.specs.Building.{Inserted, Holds}
-use Rattle.domain_zone.specs.Kept.{zone_class, zone_view}
+use Rattle.domain_zone.specs.Kept.{zone_view}
 use Rattle.domain_zone.specs.declared.building.InsertError.{InsertError}
 use Rattle.domain_zone.specs.declared.building.InsertError.TheVariants as insert
 use Rattle.domain_zone.specs.declared.fault.ZoneFault.{ZoneFault}
 use Rattle.domain_zone.specs.declared.kept.Zone as kept
-use Rattle.domain_zone_laws.specs.Zone.{Zone, RRset, IsZone, IsDataType, NSEC3}
+use Rattle.domain_zone_laws.specs.Zone.{Zone, RRset, IsDataType, NSEC3}
 use Rattle.domain_zone_load.specs.declared.error.LoadError.{LoadError}
 use Rattle.domain_zone_load.specs.declared.error.LoadError.TheVariants as load
-use Rattle.domain_zone_load.specs.Loads.{FailsAt, HasEntries, IsNoZone, IsText, IsZoneOf, MakesNone, records_of, StopsAt}
+use Rattle.domain_zone_load.specs.Loads.{FailsAt, IsNoZone, IsText, IsZoneOf, MakesNone, records_of, StopsAt}
 use Rattle.domain_zone_load.specs.Takings.{CanBeIn, CanNotBeIn, first_setting, IsIncludeEntry, IsRefusedRecord}
 use Rattle.domain_zone_text.proofs.Lines.{reads_records}
 use Rattle.domain_zone_text.proofs.Outcomes.{one_entry, one_outcome}
 use Rattle.domain_rdata_text.specs.declared.place.Place.{Place}
 use Rattle.domain_zone_text.specs.declared.error.EntryFault.{EntryFault}
 use Rattle.domain_zone_text.specs.declared.error.EntryReason.{EntryReason}
-use Rattle.domain_zone_text.specs.Lines.{Written, IsRecord, ReadsRecords, after_record, record_lines, record_said}
+use Rattle.domain_zone_text.specs.Lines.{Written, IsRecord, ReadsRecords, after_record, record_said}
 use Rattle.domain_zone_text.specs.Meanings.{Setting}
-use Rattle.domain_zone_text.specs.Reading.{EntrySaid, IsEntryFault, ReadsEntry}
+use Rattle.domain_zone_text.specs.Reading.{EntrySaid, IsEntryFault}
 use Rattle.domain_zone_text.specs.Reading.EntrySaid.{blank}
 use Rattle.domain_zone_text.specs.Readers.{ReadsNext}
 use Rattle.domain_zone_write.proofs.Alike.{zone_alike}
 use Rattle.domain_zone_write.proofs.Members.{all_from}
-use Rattle.domain_zone_write.proofs.Reading.{IsSayable, Parted, are_records, line_among, next_reads, none_left, parted, reads_blank, records_back}
-use Rattle.domain_zone_write.proofs.Same.{Alike, alike_from, alike_to, same_records, there_of}
+use Rattle.domain_zone_write.proofs.Reading.{IsSayable, are_records, line_among, next_reads, none_left, parted, reads_blank, records_back}
+use Rattle.domain_zone_write.proofs.Same.{alike_from, alike_to, same_records, there_of}
 use Rattle.domain_zone_write.specs.Laws.{IsLoadedAs, IsMemory, IsReadable, IsReadableZone, IsSameZone}
 use Rattle.domain_zone_write.specs.Texts.{IsLineOf, IsZoneText, zone_records}
 

@@ -1,10 +1,10 @@
 -- The entries of the text of a zone are its records.
-use Rattle.std.proofs.Common.{◌≡◌, ◌≢◌, ◌∙◌, ℕ, ◌≤◌, List, [], ◌∷◌, ◌++◌, length, map, Some, refl, sym, ap, subst, append-nil, inl, inr, arith}
-use Rattle.std.specs.List.{All, AllByRecursion, AllZip, Contains}
+use Rattle.std.proofs.Common.{◌≡◌, ◌∙◌, ℕ, List, [], ◌∷◌, ◌++◌, length, map, Some, refl, sym, ap, subst, inl, inr, arith}
+use Rattle.std.specs.List.{AllByRecursion, AllZip, Contains}
 use Rattle.domain_descriptor.proofs.Exact.{data_or_fault}
 use Rattle.domain_descriptor.specs.Table.{known_fields}
 use Rattle.domain_label.proofs.WireLaws.{labels_in_wire}
-use Rattle.domain_label.specs.Wire.{wire, Root, IsAbsoluteName, labels_in}
+use Rattle.domain_label.specs.Wire.{wire, Root, IsAbsoluteName}
 use Rattle.domain_rdata_text.proofs.Holding.{name_val}
 use Rattle.domain_rdata_text.proofs.Plainly.{values_once}
 use Rattle.domain_rdata_text.specs.Laws.{AreOctets}

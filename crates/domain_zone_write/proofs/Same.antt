@@ -1,21 +1,19 @@
 -- RRsets that hold the records of a zone have the same records.
-use Rattle.std.proofs.Common.{◌≡◌, ◌≢◌, ◌∙◌, ℕ, ◌<◌, ◌⊎◌, ◌==◌, Bool, true, false, cond, unwrap_or, List, [], ◌∷◌, Option, Some, get_or, length, map, refl, sym, ap, subst, inl, inr, ⊎_elim, arith}
+use Rattle.std.proofs.Common.{◌≡◌, ◌∙◌, ℕ, ◌<◌, ◌==◌, Bool, true, false, cond, unwrap_or, List, [], ◌∷◌, Option, Some, get_or, length, map, refl, sym, ap, subst, inl, inr, ⊎_elim}
 use Rattle.std.specs.Cmp.Lexicographic.{slice_cmp}
-use Rattle.std.specs.List.{All, AllZip, Contains, flat_map}
+use Rattle.std.specs.List.{AllZip, Contains}
 use Rattle.std.specs.Ordering.{nat_cmp}
 use Rattle.std.specs.declared.cmp.Ordering.TheVariants.{Less, Equal}
-use Rattle.std.proofs.lemmas.Bool.{false≢true}
 use Rattle.std.proofs.lemmas.Cmp.{nat_list_cmp_total, tied_itself}
 use Rattle.std.proofs.lemmas.List.Elements.{All-contains, Contains-get_or}
 use Rattle.domain_list.proofs.AncestorLaws.{tells_apart}
 use Rattle.domain_list.specs.NameLaws.{order_is_total}
-use Rattle.domain_list.specs.Order.{canonical_order, SameLabels}
 use Rattle.domain_zone.proofs.Good.{apart_from}
 use Rattle.domain_zone.specs.Building.{Inserted, signature_ttl, HasRecord, Holds, IsMadeOf, IsOf, SameKey}
 use Rattle.domain_zone.specs.Faults.{IsAscending, IsCanonical}
 use Rattle.domain_zone_laws.proofs.Places.{before_down, not_before_itself}
 use Rattle.domain_zone_laws.specs.Sorted.{ComesBefore}
-use Rattle.domain_zone_laws.specs.Zone.{Zone, RRset, RRSIG, AllDiffer, IsZone, IsAt, covered_type, lowest_covered, record_ttl}
+use Rattle.domain_zone_laws.specs.Zone.{Zone, RRset, RRSIG, AllDiffer, IsZone, covered_type, lowest_covered, record_ttl}
 use Rattle.domain_zone_laws.specs.declared.zone.SignatureTtl.{SignatureTtl}
 use Rattle.domain_zone_write.proofs.Members.{inserted_by, first_in, in_map, of_map, map_same, in_flat, of_flat, flat_same, in_cases, none_in, zipped, zip_same}
 use Rattle.domain_zone_write.proofs.Ttls.{lowest_is}

@@ -1,8 +1,8 @@
 -- The text of data has a word.
-use Rattle.std.proofs.Common.{◌≡◌, ◌∙◌, ℕ, Bool, true, false, not, ◌&&◌, nat_eq, cond, suc, ◌<◌, get_or, List, [], ◌∷◌, ◌++◌, Option, Some, None, unwrap_or, refl, sym, ap, subst, inl, inr, ◌⊎◌}
+use Rattle.std.proofs.Common.{◌≡◌, ◌∙◌, ℕ, Bool, true, false, not, ◌&&◌, nat_eq, cond, suc, ◌<◌, get_or, List, [], ◌∷◌, ◌++◌, Option, Some, None, unwrap_or, refl, sym, ap, inl, inr}
 use Rattle.std.specs.List.{flat_map}
-use Rattle.std.proofs.lemmas.Bool.{false≢true, true≢false, cond-true, cond-false}
-use Rattle.domain_descriptor.specs.Table.{fields_in_class, fields_of_late_type, fields_of_middle_type, fields_of_type, is_of_internet, known_fields}
+use Rattle.std.proofs.lemmas.Bool.{false≢true, true≢false}
+use Rattle.domain_descriptor.specs.Table.{fields_of_late_type, fields_of_middle_type, fields_of_type, is_of_internet, known_fields}
 use Rattle.domain_descriptor.specs.declared.kind.FieldKind.{FieldKind}
 use Rattle.domain_descriptor.specs.declared.kind.FieldKind.TheVariants.{Octets}
 use Rattle.domain_rdata_text.proofs.Holding.{values_held}

@@ -1,7 +1,7 @@
 -- The lowest TTL of records that all have the same.
-use Rattle.std.proofs.Common.{◌≡◌, ◌∙◌, ℕ, ◌⊎◌, ◌==◌, Bool, true, false, cond, List, [], ◌∷◌, Option, Some, None, min, refl, sym, ap, subst, inl, inr, ⊎_elim, arith}
+use Rattle.std.proofs.Common.{◌≡◌, ◌∙◌, ℕ, ◌⊎◌, ◌==◌, Bool, true, false, cond, List, [], ◌∷◌, Option, Some, None, min, refl, ap, inl, inr, ⊎_elim, arith}
 use Rattle.std.specs.List.{Contains, fold}
-use Rattle.std.proofs.lemmas.Bool.{eqb-true, eq-eqb, true≢false, false≢true}
+use Rattle.std.proofs.lemmas.Bool.{eqb-true, eq-eqb, false≢true}
 use Rattle.domain_zone_laws.specs.Zone.{lower_ttl, lower_covered, lowest_covered}
 use Rattle.domain_zone_laws.specs.declared.zone.SignatureTtl.{SignatureTtl}
 use Rattle.domain_zone_write.proofs.Members.{first_in, later_in, in_cases, none_in}

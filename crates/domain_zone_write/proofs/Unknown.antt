@@ -1,5 +1,5 @@
 -- Octets as data of an unknown type.
-use Rattle.std.proofs.Common.{◌≡◌, ◌∙◌, ℕ, ◌-◌, Bool, true, false, not, nat_eq, List, [], ◌∷◌, ◌++◌, length, Some, None, unwrap_or, cond, ◌&&◌, slice_range, refl, sym, ap, subst, inl, inr, arith}
+use Rattle.std.proofs.Common.{◌≡◌, ◌∙◌, ℕ, ◌-◌, Bool, true, false, not, nat_eq, List, [], ◌∷◌, None, unwrap_or, cond, ◌&&◌, slice_range, refl, ap, subst, inl, inr, arith}
 use Rattle.std.proofs.lemmas.List.{take_all}
 use Rattle.domain_descriptor.specs.Fields.{AreNoData}
 use Rattle.domain_descriptor.specs.Rdatas.{IsRdata}

@@ -18,7 +18,8 @@ use Rattle.domain_zone_load.specs.Loads.{IsNoZone, IsZoneOf}
 use Rattle.domain_zone_write.specs.Texts.{IsZoneText, zone_records}
 
 -- A text can say the record: its TTL is below 2^31 (RFC 2181, 8), and its octets are at most 65,535, data of its type
--- in which no name is compressed. The rest is so of each record of the program: numbers and octets are in their ranges.
+-- in which no name is compressed. The rest is so of each record of the program: numbers and octets are in their
+-- ranges.
 pub record IsReadable (class : ℕ) (r : Inserted) : Type 0 where
   pub small_ttl : r.ttl < 2147483648
   pub short : length r.octets ≤ 65535

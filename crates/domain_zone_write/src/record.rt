@@ -40,11 +40,7 @@ pub struct Front<'a> {
 /// # Errors
 ///
 /// Returns an error if allocation failed. The text is then unchanged.
-pub fn append_name(
-    alloc: Global,
-    name: &Name<&[u8]>,
-    text: &mut Vec<u8>,
-) -> Result<(), AllocError>
+pub fn append_name(alloc: Global, name: &Name<&[u8]>, text: &mut Vec<u8>) -> Result<(), AllocError>
     ensures ok { OnOk result ((ls : List (List ℕ)) × (ls ++ Root ≡ name_labels name.now)
         × AppendedTo text.old.items (name_text ls) text.new.items) }
     ensures unchanged { OnErr result (text.new.items ≡ text.old.items) }

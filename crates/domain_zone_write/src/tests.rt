@@ -9,7 +9,8 @@ use std::process::Abort;
 
 /// RFC 1035, 5.1; RFC 4592, 2.1.1: escapes in labels and in strings, a wildcard, and a name that is spelled in two
 /// ways.
-const ESCAPES: &[u8] = b"@ 3600 SOA ns Action\\.domains 1 2 3 4 5\n NS ns\n*.w 60 TXT \"a\\\"b\" c\\000\n\
+const ESCAPES: &[u8] =
+    b"@ 3600 SOA ns Action\\.domains 1 2 3 4 5\n NS ns\n*.w 60 TXT \"a\\\"b\" c\\000\n\
     \\000\\.x A 192.0.2.1\nns A 192.0.2.2\na\\ b.B AAAA ::1\nA\\ B.b 30 AAAA ::2\n";
 
 const ESCAPES_WRITTEN: &[u8] = b"example. 3600 IN NS ns.example.\n\
@@ -32,7 +33,8 @@ const SIGNED_WRITTEN: &[u8] = b"example. 300 IN NS ns.example.\n\
     RRSIG.example. 60 IN RRSIG NSEC 8 2 60 1798675200 1767225600 1 example. AAAA\n";
 
 /// RFC 3597, 5: data of an unknown type, and of one that has no text, in a class without a mnemonic.
-const UNKNOWN: &[u8] = b"@ 1h30m SOA ns host 1 2 3 4 5\n NS ns\n TYPE65280 \\# 3 AB cdef\n TYPE65281 \\# 0\n";
+const UNKNOWN: &[u8] =
+    b"@ 1h30m SOA ns host 1 2 3 4 5\n NS ns\n TYPE65280 \\# 3 AB cdef\n TYPE65281 \\# 0\n";
 
 const UNKNOWN_WRITTEN: &[u8] = b"example. 5400 CLASS300 NS ns.example.\n\
     example. 5400 CLASS300 SOA ns.example. host.example. 1 2 3 4 5\n\

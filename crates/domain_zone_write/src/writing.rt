@@ -34,9 +34,9 @@ fn append_set(
     Ok(())
 }
 
-/// Returns the text of a zone: a line for each record, with its absolute owner, its TTL in seconds, its class, its type
-/// and its data, with a space between two. The RRsets are in canonical order (RFC 4034, 6.1), those of one owner by
-/// type, and the records of each in ascending order of their data.
+/// Returns the text of a zone: a line for each record, with its absolute owner, its TTL in seconds, its class, its
+/// type and its data, with a space between two. The RRsets are in canonical order (RFC 4034, 6.1), those of one owner
+/// by type, and the records of each in ascending order of their data.
 ///
 /// # Errors
 ///

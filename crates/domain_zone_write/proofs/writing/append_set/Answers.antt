@@ -1,4 +1,4 @@
-use Rattle.std.proofs.Common.{◌≡◌, ◌∙◌, ℕ, ◌<◌, ◌≤◌, List, length, map, ap, sym, subst, arith}
+use Rattle.std.proofs.Common.{◌∙◌, ℕ, List, map, ap, subst}
 use Rattle.domain_header.specs.Values.{class_number}
 use Rattle.domain_name.specs.Names.{name_labels}
 use Rattle.domain_zone.specs.Building.{Inserted}

@@ -1,4 +1,4 @@
-use Rattle.std.proofs.Common.{ℕ, List, [], subst}
+use Rattle.std.proofs.Common.{[], subst}
 use Rattle.domain_header.specs.Values.{class_number}
 use Rattle.domain_header.specs.declared.class.Class.{Class}
 use Rattle.domain_zone.specs.Kept.{zone_class, zone_view}

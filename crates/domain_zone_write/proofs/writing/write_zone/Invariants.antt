@@ -1,4 +1,4 @@
-use Rattle.std.proofs.Common.{ℕ, List, [], map, drop}
+use Rattle.std.proofs.Common.{ℕ, List, [], drop}
 use Rattle.std.specs.List.{flat_map}
 use Rattle.domain_header.specs.Values.{class_number}
 use Rattle.domain_zone.specs.Kept.{zone_class, zone_view}
