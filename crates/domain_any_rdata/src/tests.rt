@@ -156,7 +156,10 @@ fn longest_shown(rt: HostRuntime) {
     assert!(rt; message.extend_from_slice(b"\x01A\x00\xc0\x00").is_ok());
     assert!(rt; message.resize(5 + 65533, 0).is_ok());
     let all = message.as_slice();
-    let (Some(whole), Some(longer)) = (read(30, &all[..5 + 65532], 3), read(30, all, 3)) else {
+    let Some(most) = all.get(..5 + 65532) else {
+        return assert!(rt; false);
+    };
+    let (Some(whole), Some(longer)) = (read(30, most, 3), read(30, all, 3)) else {
         return assert!(rt; false);
     };
     match format!(in rt.alloc(); "{whole}") {
