@@ -1,5 +1,5 @@
 -- The fields of NSEC3 and NSEC3PARAM data, by their offsets.
-use Rattle.std.proofs.Common.{◌≡◌, ◌∙◌, ℕ, ◌+◌, ◌-◌, ◌≤◌, ◌<◌, suc, List, [], ◌∷◌, ◌++◌, length, take, drop, get_or, refl, sym, ap, append_assoc, length-drop, drop-cons, add-one, arith}
+use Rattle.std.proofs.Common.{◌≡◌, ◌∙◌, ℕ, ◌+◌, ◌-◌, ◌≤◌, ◌<◌, zero, suc, List, [], ◌∷◌, ◌++◌, length, take, drop, get_or, refl, sym, ap, append_assoc, length-drop, drop-cons, add-one, arith}
 use Rattle.std.proofs.lemmas.List.{drop-drop, length-take-le, take-append-drop}
 use Rattle.std.proofs.lemmas.Nat.{be_bytes_2}
 use Rattle.std.specs.Int.{w16, to_be_bytes, from_be_bytes}
@@ -33,8 +33,8 @@ param_end m h =
     omega (arith, salt_at, salt_is, after3.1.0.1.0, after3.1.1)
 
 two_small : (c d : ℕ) → c < 256 → d < 256 → (i : ℕ) → get_or (c ∷ d ∷ []) i 0 < 256
-two_small c d hc hd 0 = hc
-two_small c d hc hd (suc 0) = hd
+two_small c d hc hd zero = hc
+two_small c d hc hd (suc zero) = hd
 two_small c d hc hd (suc (suc i)) = omega arith
 
 number_back : (c d n : ℕ) → c < 256 → d < 256 → n ≡ from_be_bytes w16 (c ∷ d ∷ []) → to_be_bytes w16 n ≡ c ∷ d ∷ []

@@ -1,5 +1,5 @@
 -- Digits that are read, eight digits at a time.
-use Rattle.std.proofs.Common.{◌≡◌, ◌∙◌, ℕ, ◌+◌, ◌-◌, ◌*◌, ◌/◌, ◌%◌, ◌≤◌, ◌<◌, suc, Bool, true, false, ◌&&◌, cond, nat_le, List, [], ◌∷◌, ◌++◌, length, take, drop, get_or, Option, Some, None, refl, sym, ap, true≢false, arith}
+use Rattle.std.proofs.Common.{◌≡◌, ◌∙◌, ℕ, ◌+◌, ◌-◌, ◌*◌, ◌/◌, ◌%◌, ◌≤◌, ◌<◌, zero, suc, Bool, true, false, ◌&&◌, cond, nat_le, List, [], ◌∷◌, ◌++◌, length, take, drop, get_or, Option, Some, None, refl, sym, ap, true≢false, arith}
 use borrow.Rule.Slice.PartMut.{put_mid}
 use Rattle.std.proofs.lemmas.Bool.{cond-true, le-leb}
 use Rattle.std.proofs.lemmas.List.{take_all, take-append-drop}
@@ -10,7 +10,7 @@ use Rattle.domain_rdata_text.specs.declared.base32.High.{High}
 use Rattle.domain_rdata_text.specs.declared.base32.High.TheVariants as highs
 use Rattle.domain_rdata_text.specs.Base32.{is_base32, base32_value, with_digit, high_after, base32_from, read_base32}
 use Rattle.domain_rdata_text.specs.Strings.{only_short}
-use Rattle.domain_nsec3.specs.Labels.{IsLabelOf, Reads}
+use Rattle.domain_nsec3.specs.Labels.{IsLabelOf, AreReadAs}
 
 -- ---- what isn't digits
 
@@ -47,7 +47,7 @@ and_second false b e = absurd (true≢false (sym e))
 -- each of some digits is one
 pub digit_at : (w : List ℕ) (i : ℕ) → i < length w → list_all is_base32 w ≡ true → is_base32 (get_or w i 0) ≡ true
 digit_at [] i in_it e = absurd (omega (arith, in_it))
-digit_at (c ∷ w) 0 in_it e = and_first (is_base32 c) (list_all is_base32 w) e
+digit_at (c ∷ w) zero in_it e = and_first (is_base32 c) (list_all is_base32 w) e
 digit_at (c ∷ w) (suc i) in_it e = digit_at w i (omega (arith, in_it)) (and_second (is_base32 c) (list_all is_base32 w) e)
 
 taken : (made : List ℕ) (h : High) (c v : ℕ) (w : List ℕ) → is_base32 c ≡ true → v ≡ base32_value c → base32_from made h (c ∷ w) ≡ base32_from (with_digit made h v) (high_after h v) w
@@ -99,7 +99,7 @@ pub eight_read : (o : List ℕ) (a b c d e f g h : ℕ) → length o ≡ 8 → l
     → (is_base32 (get_or o 2 0) ≡ true → c ≡ base32_value (get_or o 2 0)) → (is_base32 (get_or o 3 0) ≡ true → d ≡ base32_value (get_or o 3 0))
     → (is_base32 (get_or o 4 0) ≡ true → e ≡ base32_value (get_or o 4 0)) → (is_base32 (get_or o 5 0) ≡ true → f ≡ base32_value (get_or o 5 0))
     → (is_base32 (get_or o 6 0) ≡ true → g ≡ base32_value (get_or o 6 0)) → (is_base32 (get_or o 7 0) ≡ true → h ≡ base32_value (get_or o 7 0))
-    → Reads o ((a * 8 + b / 4) ∷ ((b % 4 * 32 + c) * 2 + d / 16) ∷ (d % 16 * 16 + e / 2) ∷ ((e % 2 * 32 + f) * 4 + g / 8) ∷ (g % 8 * 32 + h) ∷ [])
+    → AreReadAs o ((a * 8 + b / 4) ∷ ((b % 4 * 32 + c) * 2 + d / 16) ∷ (d % 16 * 16 + e / 2) ∷ ((e % 2 * 32 + f) * 4 + g / 8) ∷ (g % 8 * 32 + h) ∷ [])
 eight_read o a b c d e f g h n all v0 v1 v2 v3 v4 v5 v6 v7 = λ made rest.
     let d0 = digit_at o 0 (omega (arith, n)) all in
     let d1 = digit_at o 1 (omega (arith, n)) all in
@@ -126,7 +126,7 @@ back_digits o back is e =
     ∙ and_second (list_all is_base32 (take 8 o)) (list_all is_base32 (drop 8 o)) (sym (list_all-append is_base32 (take 8 o) (drop 8 o)) ∙ (ap (λ (x : List ℕ). list_all is_base32 x) (take-append-drop 8 o) ∙ e))
 
 -- a group more is read
-pub group_read : (label hash o front back octets : List ℕ) (at k : ℕ) → front ≡ take 8 o → back ≡ drop 8 o → at ≤ length hash → length octets ≡ 5 → Reads front octets
+pub group_read : (label hash o front back octets : List ℕ) (at k : ℕ) → front ≡ take 8 o → back ≡ drop 8 o → at ≤ length hash → length octets ≡ 5 → AreReadAs front octets
     → base32_from [] highs.Whole label ≡ base32_from (take at hash) highs.Whole o → base32_from [] highs.Whole label ≡ base32_from (take (at + 5) (put_mid at k hash octets)) highs.Whole back
 group_read label hash o front back octets at k is_front is_back inside five reads whole =
     let parts : o ≡ front ++ back =

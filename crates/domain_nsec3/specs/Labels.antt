@@ -8,5 +8,5 @@ abbrev pub IsLabelOf : List ℕ → List ℕ → Type 0
 IsLabelOf label hash = (length label ≡ 32) × (read_base32 label ≡ Some hash)
 
 -- These digits are read as these octets, whatever is before and after them.
-abbrev pub Reads : List ℕ → List ℕ → Type 0
-Reads digits octets = (made rest : List ℕ) → base32_from made Whole (digits ++ rest) ≡ base32_from (made ++ octets) Whole rest
+abbrev pub AreReadAs : List ℕ → List ℕ → Type 0
+AreReadAs digits octets = (made rest : List ℕ) → base32_from made Whole (digits ++ rest) ≡ base32_from (made ++ octets) Whole rest

@@ -1,4 +1,5 @@
 pub mod Hashing
 pub mod Labels
 pub mod Covering
+pub mod Laws
 pub mod Records

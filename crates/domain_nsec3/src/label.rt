@@ -1,7 +1,7 @@
 //! The label that has a hash, in base32hex without padding (RFC 4648, 7; RFC 5155, 3).
 ghost use Rattle.std.specs.Prelude.{◌≡◌, ◌<◌, ℕ, List, [], ◌∷◌, length, true, MatchOption};
 ghost use Rattle.std.specs.List.{list_all};
-ghost use Rattle.domain_nsec3.specs.Labels.{IsLabelOf, Reads};
+ghost use Rattle.domain_nsec3.specs.Labels.{IsLabelOf, AreReadAs};
 ghost use Rattle.domain_rdata_text.specs.Base32.{base32_digit, base32_text, base32_value, is_base32};
 
 use crate::hashing::HASH_LEN;
@@ -105,7 +105,7 @@ fn number_of(octet: u8) -> u8
 /// The five octets of eight digits.
 fn octets_of(digits: &[u8]) -> [u8; 5]
     requires { length digits.now ≡ 8 }
-    ensures { list_all is_base32 digits.now ≡ true → Reads digits.now result }
+    ensures { list_all is_base32 digits.now ≡ true → AreReadAs digits.now result }
 {
     let a = number_of(digits[0]);
     let b = number_of(digits[1]);

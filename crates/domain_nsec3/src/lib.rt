@@ -7,11 +7,13 @@
 pub mod covering;
 pub mod hashing;
 pub mod label;
+pub mod laws;
 pub mod record;
 
 pub use covering::{covers, matches};
 pub use hashing::{HASH_LEN, TooManyIterations, hash_name};
 pub use label::{LABEL_LEN, hash_of_label, label_of_hash};
+pub use laws::hash_chain_laws;
 pub use record::{Nsec3, Nsec3Param, SHA1};
 
 #[cfg(test)]

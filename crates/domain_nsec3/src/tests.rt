@@ -36,23 +36,78 @@ fn has_label(name: &[u8], label: &[u8]) -> bool {
 fn hashes_of_the_zone(rt: HostRuntime) {
     assert!(rt; has_label(b"\x07example\x00", b"0p9mhaveqvm6t7vbl5lop2u3t2rp3tom"));
     assert!(rt; has_label(b"\x01a\x07example\x00", b"35mthgpgcu1qg68fab165klnsnk3dpvl"));
-    assert!(rt; has_label(b"\x02ai\x07example\x00", b"gjeqe526plbf1g8mklp59enfd789njgi"));
-    assert!(rt; has_label(b"\x03ns1\x07example\x00", b"2t7b4g4vsa5smi47k61mv5bv1a22bojr"));
-    assert!(rt; has_label(b"\x03ns2\x07example\x00", b"q04jkcevqvmu85r014c7dkba38o0ji5r"));
+    assert!(rt;
+        has_label(
+            b"\x02ai\x07example\x00",
+            b"gjeqe526plbf1g8mklp59enfd789njgi"
+        )
+    );
+    assert!(rt;
+        has_label(
+            b"\x03ns1\x07example\x00",
+            b"2t7b4g4vsa5smi47k61mv5bv1a22bojr"
+        )
+    );
+    assert!(rt;
+        has_label(
+            b"\x03ns2\x07example\x00",
+            b"q04jkcevqvmu85r014c7dkba38o0ji5r"
+        )
+    );
     assert!(rt; has_label(b"\x01w\x07example\x00", b"k8udemvp1j2f7eg6jebps17vp3n8i58h"));
-    assert!(rt; has_label(b"\x01*\x01w\x07example\x00", b"r53bq7cc2uvmubfu5ocmm6pers9tk9en"));
-    assert!(rt; has_label(b"\x01x\x01w\x07example\x00", b"b4um86eghhds6nea196smvmlo4ors995"));
-    assert!(rt; has_label(b"\x01y\x01w\x07example\x00", b"ji6neoaepv8b5o6k4ev33abha8ht9fgc"));
-    assert!(rt; has_label(b"\x01x\x01y\x01w\x07example\x00", b"2vptu5timamqttgl4luu9kg21e0aor3s"));
-    assert!(rt; has_label(b"\x02xx\x07example\x00", b"t644ebqk9bibcna874givr6joj62mlhv"));
-    assert!(rt; has_label(b"\x01c\x01x\x01w\x07example\x00", b"0va5bpr2ou0vk0lbqeeljri88laipsfh"));
-    assert!(rt; has_label(b"\x01*\x01x\x01w\x07example\x00", b"92pqneegtaue7pjatc3l3qnk738c6v5m"));
+    assert!(rt;
+        has_label(
+            b"\x01*\x01w\x07example\x00",
+            b"r53bq7cc2uvmubfu5ocmm6pers9tk9en"
+        )
+    );
+    assert!(rt;
+        has_label(
+            b"\x01x\x01w\x07example\x00",
+            b"b4um86eghhds6nea196smvmlo4ors995"
+        )
+    );
+    assert!(rt;
+        has_label(
+            b"\x01y\x01w\x07example\x00",
+            b"ji6neoaepv8b5o6k4ev33abha8ht9fgc"
+        )
+    );
+    assert!(rt;
+        has_label(
+            b"\x01x\x01y\x01w\x07example\x00",
+            b"2vptu5timamqttgl4luu9kg21e0aor3s"
+        )
+    );
+    assert!(rt;
+        has_label(
+            b"\x02xx\x07example\x00",
+            b"t644ebqk9bibcna874givr6joj62mlhv"
+        )
+    );
+    assert!(rt;
+        has_label(
+            b"\x01c\x01x\x01w\x07example\x00",
+            b"0va5bpr2ou0vk0lbqeeljri88laipsfh"
+        )
+    );
+    assert!(rt;
+        has_label(
+            b"\x01*\x01x\x01w\x07example\x00",
+            b"92pqneegtaue7pjatc3l3qnk738c6v5m"
+        )
+    );
 }
 
 /// The case of a name doesn't matter, nor that of a label.
 #[test]
 fn case(rt: HostRuntime) {
-    assert!(rt; has_label(b"\x02XX\x07eXample\x00", b"t644ebqk9bibcna874givr6joj62mlhv"));
+    assert!(rt;
+        has_label(
+            b"\x02XX\x07eXample\x00",
+            b"t644ebqk9bibcna874givr6joj62mlhv"
+        )
+    );
     let hash = hash_of_label(b"T644EBQK9BIBCNA874GIVR6JOJ62MLHV");
     assert_eq!(rt; hash, Some(hash_of(b"\x02xx\x07example\x00")));
 }
@@ -66,7 +121,10 @@ fn no_iterations(rt: HostRuntime) {
     let Ok(hash) = hash_name(&name, 0, b"", 0) else {
         return assert!(rt; false);
     };
-    assert_eq!(rt; label_of_hash(&hash).as_slice(), b"ck0pojmg874ljref7efn8430qvit8bsm");
+    assert_eq!(rt;
+        label_of_hash(&hash).as_slice(),
+        b"ck0pojmg874ljref7efn8430qvit8bsm"
+    );
     assert_eq!(rt; hash_name(&name, 1, b"", 0), Err(TooManyIterations));
 }
 
