@@ -3,8 +3,10 @@ use Rattle.std.proofs.Common.{◌≡◌, ◌∙◌, ℕ, ◌+◌, ◌-◌, ◌*�
 use borrow.Rule.Slice.PartMut.{put_mid}
 use Rattle.std.proofs.lemmas.List.{take_all}
 use Rattle.std.proofs.lemmas.Slice.{take-put_mid}
-use Rattle.domain_rdata_text.specs.Base32.{base32_text}
+use Rattle.domain_rdata_text.specs.Base32.{base32_text, read_base32}
 use Rattle.domain_rdata_text.specs.Laws.{AreOctets}
+use Rattle.domain_rdata_text.proofs.Quintets.{base32_back}
+use Rattle.domain_nsec3.specs.Labels.{IsLabelOf}
 
 -- the first five octets
 five_first : (o : List ℕ) → 5 ≤ length o → base32_text o ≡ base32_text (get_or o 0 0 ∷ get_or o 1 0 ∷ get_or o 2 0 ∷ get_or o 3 0 ∷ get_or o 4 0 ∷ []) ++ base32_text (drop 5 o)
@@ -29,13 +31,19 @@ group_written label hash o digits at k n some inside is many whole =
     ∙ (append_assoc (take at label) digits (base32_text (take n (drop 5 o)))
     ∙ (ap (λ (x : List ℕ). take at label ++ x) (sym next) ∙ whole))
 
+-- how many digits are written, and how many octets are left
+pub group_sum : (o : List ℕ) (at n : ℕ) → 5 ≤ length o → length o - 5 ≤ n → 5 * at + 8 * length o ≡ 160 → 5 * (at + 8) + 8 * length (take n (drop 5 o)) ≡ 160
+group_sum o at n some many sum =
+    let left : length (take n (drop 5 o)) ≡ length (drop 5 o) = ap length (take_all n (drop 5 o) (omega (arith, length-drop 5 o, many))) in
+    omega (arith, left, length-drop 5 o, some, sum)
+
 -- all is written where fewer octets are left
 pub all_written : (label hash o : List ℕ) (at : ℕ) → length label ≡ 32 → 5 * at + 8 * length o ≡ 160 → length o < 5 → take at label ++ base32_text o ≡ base32_text hash → label ≡ base32_text hash
 all_written label hash [] at long sum few whole =
     sym (take_all at label (omega (arith, long, sum))) ∙ (sym (append-nil (take at label)) ∙ whole)
 all_written label hash (a ∷ o) at long sum few whole = absurd (omega (arith, sum, few))
 
--- octets, seen by their places
-pub octets_each : (o : List ℕ) → ((i : ℕ) → get_or o i 0 < 256) → AreOctets o
-octets_each [] h = tt
-octets_each (c ∷ o) h = (h 0, octets_each o (λ i. h (suc i)))
+-- a label that has the digits of a hash is read as it
+pub read_back : (label hash : List ℕ) → length label ≡ 32 → length hash ≡ 20 → AreOctets hash → label ≡ base32_text hash → IsLabelOf label hash
+read_back label [] long size small is = absurd (omega (arith, size))
+read_back label (c ∷ o) long size small is = (long, ap read_base32 is ∙ base32_back c o (omega (arith, size)) small)

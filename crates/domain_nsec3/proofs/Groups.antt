@@ -1,5 +1,5 @@
 -- Digits that are read, eight digits at a time.
-use Rattle.std.proofs.Common.{◌≡◌, ◌∙◌, ℕ, ◌+◌, ◌-◌, ◌*◌, ◌/◌, ◌%◌, ◌≤◌, ◌<◌, zero, suc, Bool, true, false, ◌&&◌, cond, nat_le, List, [], ◌∷◌, ◌++◌, length, take, drop, get_or, Option, Some, None, refl, sym, ap, true≢false, arith}
+use Rattle.std.proofs.Common.{◌≡◌, ◌∙◌, ℕ, ◌+◌, ◌-◌, ◌*◌, ◌/◌, ◌%◌, ◌≤◌, ◌<◌, zero, suc, Bool, true, false, ◌&&◌, cond, nat_le, List, [], ◌∷◌, ◌++◌, length, take, drop, get_or, Option, Some, None, refl, sym, ap, true≢false, length-drop, arith}
 use borrow.Rule.Slice.PartMut.{put_mid}
 use Rattle.std.proofs.lemmas.Bool.{cond-true, le-leb}
 use Rattle.std.proofs.lemmas.List.{take_all, take-append-drop}
@@ -126,15 +126,20 @@ back_digits o back is e =
     ∙ and_second (list_all is_base32 (take 8 o)) (list_all is_base32 (drop 8 o)) (sym (list_all-append is_base32 (take 8 o) (drop 8 o)) ∙ (ap (λ (x : List ℕ). list_all is_base32 x) (take-append-drop 8 o) ∙ e))
 
 -- a group more is read
-pub group_read : (label hash o front back octets : List ℕ) (at k : ℕ) → front ≡ take 8 o → back ≡ drop 8 o → at ≤ length hash → length octets ≡ 5 → AreReadAs front octets
-    → base32_from [] highs.Whole label ≡ base32_from (take at hash) highs.Whole o → base32_from [] highs.Whole label ≡ base32_from (take (at + 5) (put_mid at k hash octets)) highs.Whole back
-group_read label hash o front back octets at k is_front is_back inside five reads whole =
-    let parts : o ≡ front ++ back =
-    sym (take-append-drop 8 o) ∙ (ap (λ (x : List ℕ). x ++ drop 8 o) (sym is_front) ∙ ap (λ (x : List ℕ). front ++ x) (sym is_back)) in
+pub group_read : (label hash o back octets copied : List ℕ) (at k : ℕ) → back ≡ drop 8 o → at ≤ length hash → length octets ≡ 5 → copied ≡ octets → AreReadAs (take 8 o) octets
+    → base32_from [] highs.Whole label ≡ base32_from (take at hash) highs.Whole o → base32_from [] highs.Whole label ≡ base32_from (take (at + 5) (put_mid at k hash copied)) highs.Whole back
+group_read label hash o back octets copied at k is_back inside five same reads whole =
+    let parts : o ≡ take 8 o ++ back = sym (take-append-drop 8 o) ∙ ap (λ (x : List ℕ). take 8 o ++ x) (sym is_back) in
+    let long : length copied ≡ 5 = ap length same ∙ five in
+    let made : take (at + 5) (put_mid at k hash copied) ≡ take at hash ++ octets =
+    take-put_mid at k hash copied (at + 5) (omega (arith, long)) inside ∙ ap (λ (x : List ℕ). take at hash ++ x) same in
     whole
     ∙ (ap (λ (x : List ℕ). base32_from (take at hash) highs.Whole x) parts
-    ∙ (reads (take at hash) back
-    ∙ ap (λ (x : List ℕ). base32_from x highs.Whole back) (sym (take-put_mid at k hash octets (at + 5) (omega (arith, five)) inside))))
+    ∙ (reads (take at hash) back ∙ ap (λ (x : List ℕ). base32_from x highs.Whole back) (sym made)))
+
+-- how many octets are read, and how many digits are left
+pub digits_sum : (o back : List ℕ) (at : ℕ) → back ≡ drop 8 o → 8 ≤ length o → 8 * at + 5 * length o ≡ 160 → 8 * (at + 5) + 5 * length back ≡ 160
+digits_sum o back at is some sum = omega (arith, ap length is, length-drop 8 o, some, sum)
 
 short_read : (label hash : List ℕ) → length label ≡ 32 → length hash ≡ 20 → base32_from [] highs.Whole label ≡ Some hash → read_base32 label ≡ Some hash
 short_read [] hash long size e = absurd (omega (arith, long))
