@@ -48,7 +48,7 @@ pub never_both : (owner next x : List ℕ) → MatchesHash owner x → CoversHas
 never_both owner next x e covered =
     ⊎_elim (λ (c : HashPrecedes owner next × HashPrecedes owner x × HashPrecedes x next). itself owner (subst (λ (h : List ℕ). HashPrecedes owner h) e c.1.0))
     (λ (c : (HashPrecedes owner next → ⊥) × (HashPrecedes owner x ⊎ HashPrecedes x next)).
-        ⊎_elim (λ (p : HashPrecedes owner x). itself owner (subst (λ (h : List ℕ). HashPrecedes owner h) e p)) (λ (p : HashPrecedes x next). c.0 (subst (λ (h : List ℕ). HashPrecedes h next) e p)) c.1)
+    ⊎_elim (λ (p : HashPrecedes owner x). itself owner (subst (λ (h : List ℕ). HashPrecedes owner h) e p)) (λ (p : HashPrecedes x next). c.0 (subst (λ (h : List ℕ). HashPrecedes h next) e p)) c.1)
     covered
 
 -- a record whose next hash is after its own shows nothing outside
@@ -56,14 +56,14 @@ outside : (k next x : List ℕ) → HashPrecedes k next → (x ≡ k → ⊥) �
 outside k next x up other out =
     ⊎_elim (λ (e : MatchesHash k x). other e)
     (λ (c : CoversHash k next x). ⊎_elim (λ (c : HashPrecedes k next × HashPrecedes k x × HashPrecedes x next). out c.1.0 c.1.1)
-        (λ (c : (HashPrecedes k next → ⊥) × (HashPrecedes k x ⊎ HashPrecedes x next)). c.0 up) c)
+    (λ (c : (HashPrecedes k next → ⊥) × (HashPrecedes k x ⊎ HashPrecedes x next)). c.0 up) c)
 
 -- the last record shows nothing between the first hash and its own
 last_outside : (k first x : List ℕ) → (HashPrecedes k first → ⊥) → HashPrecedes x k → (HashPrecedes x first → ⊥) → MatchesHash k x ⊎ CoversHash k first x → ⊥
 last_outside k first x late below from =
     ⊎_elim (λ (e : MatchesHash k x). itself k (subst (λ (h : List ℕ). HashPrecedes h k) e below))
     (λ (c : CoversHash k first x). ⊎_elim (λ (c : HashPrecedes k first × HashPrecedes k x × HashPrecedes x first). late c.0)
-        (λ (c : (HashPrecedes k first → ⊥) × (HashPrecedes k x ⊎ HashPrecedes x first)). ⊎_elim (λ (p : HashPrecedes k x). crossed k x p below) from c.1) c)
+    (λ (c : (HashPrecedes k first → ⊥) × (HashPrecedes k x ⊎ HashPrecedes x first)). ⊎_elim (λ (p : HashPrecedes k x). crossed k x p below) from c.1) c)
 
 -- it shows each hash from its own on
 last_shows : (k first x : List ℕ) → (HashPrecedes k first → ⊥) → (HashPrecedes x k → ⊥) → MatchesHash k x ⊎ CoversHash k first x
@@ -113,10 +113,13 @@ one_after first k (j ∷ js) x late order up from =
     ⊎_elim
     (λ (below : HashPrecedes x j). (0, inner_shows k j x order.0 up below, only_zero first k (j ∷ js) x (none_before first j js x later order.1 below from)))
     (λ (q : (x ≡ j) ⊎ HashPrecedes j x).
-        let high : HashPrecedes x j → ⊥ = λ (p : HashPrecedes x j). ⊎_elim (λ (e : x ≡ j). itself j (subst (λ (h : List ℕ). HashPrecedes h j) e p)) (λ (r : HashPrecedes j x). crossed x j p r) q in
-        let next : JustOne (λ (i : ℕ). ShowsHashAt first (j ∷ js) i x) = one_after first j js x later order.1 high from in
-        (suc next.0, next.1.0, only_later first k (j ∷ js) x next.0
-            (outside k j x order.0 (λ (e : x ≡ k). high (subst (λ (h : List ℕ). HashPrecedes h j) (sym e) order.0)) (λ (p : HashPrecedes k x) (r : HashPrecedes x j). high r)) next.1.1))
+    let high : HashPrecedes x j → ⊥ = λ (p : HashPrecedes x j). ⊎_elim (λ (e : x ≡ j). itself j (subst (λ (h : List ℕ). HashPrecedes h j) e p)) (λ (r : HashPrecedes j x). crossed x j p r) q in
+    let next : JustOne (λ (i : ℕ). ShowsHashAt first (j ∷ js) i x) = one_after first j js x later order.1 high from in (
+      suc next.0,
+      next.1.0,
+      only_later first k (j ∷ js) x next.0
+          (outside k j x order.0 (λ (e : x ≡ k). high (subst (λ (h : List ℕ). HashPrecedes h j) (sym e) order.0)) (λ (p : HashPrecedes k x) (r : HashPrecedes x j). high r)) next.1.1,
+    ))
     (placed x j)
 
 -- just one shows a hash before the first: the last one
@@ -125,15 +128,18 @@ one_wrapped first k [] x late order early = (0, inr (inr (late, inr early)), onl
 one_wrapped first k (j ∷ js) x late order early =
     let later : HashPrecedes j first → ⊥ = λ (p : HashPrecedes j first). late (chained k j first order.0 p) in
     let below : HashPrecedes x k = before_later x first k early late in
-    let next : JustOne (λ (i : ℕ). ShowsHashAt first (j ∷ js) i x) = one_wrapped first j js x later order.1 early in
-    (suc next.0, next.1.0, only_later first k (j ∷ js) x next.0
-        (outside k j x order.0 (λ (e : x ≡ k). itself k (subst (λ (h : List ℕ). HashPrecedes h k) e below)) (λ (p : HashPrecedes k x) (r : HashPrecedes x j). crossed k x p below)) next.1.1)
+    let next : JustOne (λ (i : ℕ). ShowsHashAt first (j ∷ js) i x) = one_wrapped first j js x later order.1 early in (
+      suc next.0,
+      next.1.0,
+      only_later first k (j ∷ js) x next.0
+          (outside k j x order.0 (λ (e : x ≡ k). itself k (subst (λ (h : List ℕ). HashPrecedes h k) e below)) (λ (p : HashPrecedes k x) (r : HashPrecedes x j). crossed k x p below)) next.1.1,
+    )
 
 -- just one record of a closed chain shows a hash
 pub one_shows : (h : List ℕ) (hs : List (List ℕ)) (x : List ℕ) → AreInHashOrder (h ∷ hs) → JustOne (λ (i : ℕ). ShowsHashAt h (h ∷ hs) i x)
 one_shows h hs x order =
     ⊎_elim (λ (early : HashPrecedes x h). one_wrapped h h hs x (itself h) order early)
     (λ (q : (x ≡ h) ⊎ HashPrecedes h x).
-        let up : HashPrecedes x h → ⊥ = λ (p : HashPrecedes x h). ⊎_elim (λ (e : x ≡ h). itself h (subst (λ (g : List ℕ). HashPrecedes g h) e p)) (λ (r : HashPrecedes h x). crossed x h p r) q in
-        one_after h h hs x (itself h) order up up)
+    let up : HashPrecedes x h → ⊥ = λ (p : HashPrecedes x h). ⊎_elim (λ (e : x ≡ h). itself h (subst (λ (g : List ℕ). HashPrecedes g h) e p)) (λ (r : HashPrecedes h x). crossed x h p r) q in
+    one_after h h hs x (itself h) order up up)
     (placed x h)
