@@ -46,7 +46,7 @@ before_later x first k p late =
 -- no record matches what it covers
 pub never_both : (owner next x : List ℕ) → MatchesHash owner x → CoversHash owner next x → ⊥
 never_both owner next x e covered =
-    ⊎_elim (λ (c : HashPrecedes owner next × HashPrecedes owner x × HashPrecedes x next). itself owner (subst (λ (h : List ℕ). HashPrecedes owner h) e c.1.0))
+    ⊎_elim (λ (c : HashPrecedes owner next × HashPrecedes owner x × HashPrecedes x next). itself owner (subst (λ (h : List ℕ). HashPrecedes owner h) e c.1))
     (λ (c : (HashPrecedes owner next → ⊥) × (HashPrecedes owner x ⊎ HashPrecedes x next)).
     ⊎_elim (λ (p : HashPrecedes owner x). itself owner (subst (λ (h : List ℕ). HashPrecedes owner h) e p)) (λ (p : HashPrecedes x next). c.0 (subst (λ (h : List ℕ). HashPrecedes h next) e p)) c.1)
     covered
@@ -55,7 +55,7 @@ never_both owner next x e covered =
 outside : (k next x : List ℕ) → HashPrecedes k next → (x ≡ k → ⊥) → (HashPrecedes k x → HashPrecedes x next → ⊥) → MatchesHash k x ⊎ CoversHash k next x → ⊥
 outside k next x up other out =
     ⊎_elim (λ (e : MatchesHash k x). other e)
-    (λ (c : CoversHash k next x). ⊎_elim (λ (c : HashPrecedes k next × HashPrecedes k x × HashPrecedes x next). out c.1.0 c.1.1)
+    (λ (c : CoversHash k next x). ⊎_elim (λ (c : HashPrecedes k next × HashPrecedes k x × HashPrecedes x next). out c.1 c.2)
     (λ (c : (HashPrecedes k next → ⊥) × (HashPrecedes k x ⊎ HashPrecedes x next)). c.0 up) c)
 
 -- the last record shows nothing between the first hash and its own
@@ -116,9 +116,9 @@ one_after first k (j ∷ js) x late order up from =
     let high : HashPrecedes x j → ⊥ = λ (p : HashPrecedes x j). ⊎_elim (λ (e : x ≡ j). itself j (subst (λ (h : List ℕ). HashPrecedes h j) e p)) (λ (r : HashPrecedes j x). crossed x j p r) q in
     let next : JustOne (λ (i : ℕ). ShowsHashAt first (j ∷ js) i x) = one_after first j js x later order.1 high from in (
       suc next.0,
-      next.1.0,
+      next.1,
       only_later first k (j ∷ js) x next.0
-          (outside k j x order.0 (λ (e : x ≡ k). high (subst (λ (h : List ℕ). HashPrecedes h j) (sym e) order.0)) (λ (p : HashPrecedes k x) (r : HashPrecedes x j). high r)) next.1.1,
+          (outside k j x order.0 (λ (e : x ≡ k). high (subst (λ (h : List ℕ). HashPrecedes h j) (sym e) order.0)) (λ (p : HashPrecedes k x) (r : HashPrecedes x j). high r)) next.2,
     ))
     (placed x j)
 
@@ -130,9 +130,9 @@ one_wrapped first k (j ∷ js) x late order early =
     let below : HashPrecedes x k = before_later x first k early late in
     let next : JustOne (λ (i : ℕ). ShowsHashAt first (j ∷ js) i x) = one_wrapped first j js x later order.1 early in (
       suc next.0,
-      next.1.0,
+      next.1,
       only_later first k (j ∷ js) x next.0
-          (outside k j x order.0 (λ (e : x ≡ k). itself k (subst (λ (h : List ℕ). HashPrecedes h k) e below)) (λ (p : HashPrecedes k x) (r : HashPrecedes x j). crossed k x p below)) next.1.1,
+          (outside k j x order.0 (λ (e : x ≡ k). itself k (subst (λ (h : List ℕ). HashPrecedes h k) e below)) (λ (p : HashPrecedes k x) (r : HashPrecedes x j). crossed k x p below)) next.2,
     )
 
 -- just one record of a closed chain shows a hash

@@ -3,10 +3,7 @@ use Rattle.std.proofs.Common.{◌≡◌, ◌∙◌, ℕ, ◌+◌, ◌-◌, ◌*�
 use borrow.Rule.Slice.PartMut.{put_mid}
 use Rattle.std.proofs.lemmas.List.{take_all}
 use Rattle.std.proofs.lemmas.Slice.{take-put_mid}
-use Rattle.domain_rdata_text.specs.Base32.{base32_text, read_base32}
-use Rattle.domain_rdata_text.specs.Laws.{AreOctets}
-use Rattle.domain_rdata_text.proofs.Quintets.{base32_back}
-use Rattle.domain_nsec3.specs.Labels.{IsLabelOf}
+use Rattle.domain_rdata_text.specs.Base32.{base32_text}
 
 -- the first five octets
 five_first : (o : List ℕ) → 5 ≤ length o → base32_text o ≡ base32_text (get_or o 0 0 ∷ get_or o 1 0 ∷ get_or o 2 0 ∷ get_or o 3 0 ∷ get_or o 4 0 ∷ []) ++ base32_text (drop 5 o)
@@ -42,8 +39,3 @@ pub all_written : (label hash o : List ℕ) (at : ℕ) → length label ≡ 32 �
 all_written label hash [] at long sum few whole =
     sym (take_all at label (omega (arith, long, sum))) ∙ (sym (append-nil (take at label)) ∙ whole)
 all_written label hash (a ∷ o) at long sum few whole = absurd (omega (arith, sum, few))
-
--- a label that has the digits of a hash is read as it
-pub read_back : (label hash : List ℕ) → length label ≡ 32 → length hash ≡ 20 → AreOctets hash → label ≡ base32_text hash → IsLabelOf label hash
-read_back label [] long size small is = absurd (omega (arith, size))
-read_back label (c ∷ o) long size small is = (long, ap read_base32 is ∙ base32_back c o (omega (arith, size)) small)

@@ -12,25 +12,25 @@ use Rattle.domain_nsec3.specs.Records.{parameters}
 pub nsec3_ends : (m : List ℕ) → AreData (known_fields 50 1) m 0
     → (5 + slice_index m 4 < length m) × (6 + slice_index m 4 + slice_index m (5 + slice_index m 4) ≤ length m)
 nsec3_ends m h =
-    let after1 = h.1.1 in
-    let after2 = after1.1.1 in
-    let after3 = after2.1.1 in
-    let after4 = after3.1.1 in
-    let salt_at : after2.0 ≡ 4 = omega (arith, h.1.0.0, after1.1.0.0, after2.1.0.0) in
+    let after1 = h.2 in
+    let after2 = after1.2 in
+    let after3 = after2.2 in
+    let after4 = after3.2 in
+    let salt_at : after2.0 ≡ 4 = omega (arith, h.1.0, after1.1.0, after2.1.0) in
     let salt_is : slice_index m after2.0 ≡ slice_index m 4 = ap (slice_index m) salt_at in
-    let next_at : after3.0 ≡ 5 + slice_index m 4 = omega (arith, salt_at, salt_is, after3.1.0.1.0) in
+    let next_at : after3.0 ≡ 5 + slice_index m 4 = omega (arith, salt_at, salt_is, after3.1.1) in
     let next_is : slice_index m after3.0 ≡ slice_index m (5 + slice_index m 4) = ap (slice_index m) next_at in
-    (omega (arith, next_at, after4.1.0.0.0), omega (arith, next_at, next_is, after4.1.0.0.1.0, after4.1.0.0.1.1))
+    (omega (arith, next_at, after4.1.0.0), omega (arith, next_at, next_is, after4.1.0.1, after4.1.0.2))
 
 -- where the salt of NSEC3PARAM data ends
 pub param_end : (m : List ℕ) → AreData (known_fields 51 1) m 0 → 5 + slice_index m 4 ≡ length m
 param_end m h =
-    let after1 = h.1.1 in
-    let after2 = after1.1.1 in
-    let after3 = after2.1.1 in
-    let salt_at : after2.0 ≡ 4 = omega (arith, h.1.0.0, after1.1.0.0, after2.1.0.0) in
+    let after1 = h.2 in
+    let after2 = after1.2 in
+    let after3 = after2.2 in
+    let salt_at : after2.0 ≡ 4 = omega (arith, h.1.0, after1.1.0, after2.1.0) in
     let salt_is : slice_index m after2.0 ≡ slice_index m 4 = ap (slice_index m) salt_at in
-    omega (arith, salt_at, salt_is, after3.1.0.1.0, after3.1.1)
+    omega (arith, salt_at, salt_is, after3.1.1, after3.2)
 
 two_small : (c d : ℕ) → c < 256 → d < 256 → (i : ℕ) → get_or (c ∷ d ∷ []) i 0 < 256
 two_small c d hc hd zero = hc
@@ -67,8 +67,8 @@ counted_joined o next types k j inside is_j whole is_next is_types =
     ∙ (ap (λ (x : ℕ). take k o ++ x ∷ rest) many ∙ (ap (λ (x : List ℕ). take k o ++ x) (sym head) ∙ take-append-drop k o))
 
 -- the fields of NSEC3 data are its octets
-pub nsec3_joined : (m salt next types : List ℕ) (n k j : ℕ) → ((i : ℕ) → get_or m i 0 < 256) → k ≡ get_or m 4 0 → 5 + k < length m → j ≡ get_or m (5 + k) 0 → 5 + (k + 1 + j) ≤ length m
-    → n ≡ from_be_bytes w16 (get_or m 2 0 ∷ get_or m 3 0 ∷ []) → salt ≡ take k (drop 5 m) → next ≡ take j (drop (5 + (k + 1)) m) → types ≡ drop (5 + (k + 1 + j)) m
+pub nsec3_joined : (m salt next types : List ℕ) (n k j : ℕ) → ((i : ℕ) → get_or m i 0 < 256) → k ≡ get_or m 4 0 → 5 + k < length m → j ≡ get_or (drop 5 m) k 0 → 5 + (k + 1 + j) ≤ length m
+    → n ≡ from_be_bytes w16 (get_or m 2 0 ∷ get_or m 3 0 ∷ []) → salt ≡ take k (drop 5 m) → next ≡ take j (drop (k + 1) (drop 5 m)) → types ≡ drop (k + 1 + j) (drop 5 m)
     → parameters (get_or m 0 0) (get_or m 1 0) n salt ++ length next ∷ (next ++ types) ≡ m
 nsec3_joined [] salt next types n k j small is_k some is_j whole is is_salt is_next is_types = absurd (omega (arith, some))
 nsec3_joined (a ∷ []) salt next types n k j small is_k some is_j whole is is_salt is_next is_types = absurd (omega (arith, some))

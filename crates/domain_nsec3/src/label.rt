@@ -1,7 +1,7 @@
 //! The label that has a hash, in base32hex without padding (RFC 4648, 7; RFC 5155, 3).
-ghost use Rattle.std.specs.Prelude.{◌≡◌, ◌<◌, ℕ, List, [], ◌∷◌, length, true, MatchOption};
+ghost use Rattle.std.specs.Prelude.{◌≡◌, ◌<◌, ℕ, List, [], ◌∷◌, length, true, IfSome, IfNone};
 ghost use Rattle.std.specs.List.{list_all};
-ghost use Rattle.domain_nsec3.specs.Labels.{IsLabelOf, AreReadAs};
+ghost use Rattle.domain_nsec3.specs.Labels.{IsLabelOf, octets_of_digits};
 ghost use Rattle.domain_rdata_text.specs.Base32.{base32_digit, base32_text, base32_value, is_base32};
 
 use crate::hashing::HASH_LEN;
@@ -42,8 +42,7 @@ fn digits_of(a: u8, b: u8, c: u8, d: u8, e: u8) -> [u8; 8]
 ///
 /// It is the hash in base32hex, in lower case and without padding (RFC 4648, 7).
 pub fn label_of_hash(hash: &[u8; HASH_LEN]) -> [u8; LABEL_LEN]
-    ensures text { result ≡ base32_text hash.now }
-    ensures read_back { IsLabelOf result hash.now }
+    ensures { result ≡ base32_text hash.now }
 {
     let mut label = [0; LABEL_LEN];
     let mut at = 0;
@@ -65,6 +64,7 @@ fn is_digit(octet: u8) -> bool
 }
 
 /// Whether all are digits.
+#[tactic(auto, using(std::proofs::lemmas::List::Folds::list_all_more, std::proofs::lemmas::List::Folds::list_all_at))]
 fn are_digits(octets: &[u8]) -> bool
     ensures { result ≡ list_all is_base32 octets.now }
 {
@@ -105,7 +105,7 @@ fn number_of(octet: u8) -> u8
 /// The five octets of eight digits.
 fn octets_of(digits: &[u8]) -> [u8; 5]
     requires { length digits.now ≡ 8 }
-    ensures { list_all is_base32 digits.now ≡ true → AreReadAs digits.now result }
+    ensures { list_all is_base32 digits.now ≡ true → result ≡ octets_of_digits digits.now }
 {
     let a = number_of(digits[0]);
     let b = number_of(digits[1]);
@@ -126,11 +126,15 @@ fn octets_of(digits: &[u8]) -> [u8; 5]
 
 /// Returns the hash that a label has in base32hex, in upper or lower case: of the first label of the owner of an NSEC3
 /// record its hash (RFC 5155, 3). `None` exactly where it isn't 32 digits.
+#[tactic(auto, using(crate::proofs::Groups::not_long, crate::proofs::Groups::not_digits))]
 pub fn hash_of_label(label: &[u8]) -> Option<[u8; HASH_LEN]>
-    ensures { MatchOption result ((hash : List ℕ) → IsLabelOf label.now hash → ⊥)
-        (IsLabelOf label.now) }
+    ensures some { IfSome result (IsLabelOf label.now) }
+    ensures none { IfNone result ((hash : List ℕ) → IsLabelOf label.now hash → ⊥) }
 {
-    if label.len() != LABEL_LEN || !are_digits(label) {
+    if label.len() != LABEL_LEN {
+        return None;
+    }
+    if !are_digits(label) {
         return None;
     }
     let mut hash = [0; HASH_LEN];

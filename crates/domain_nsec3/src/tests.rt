@@ -123,7 +123,7 @@ fn no_iterations(rt: HostRuntime) {
     };
     assert_eq!(rt;
         label_of_hash(&hash).as_slice(),
-        b"ck0pojmg874ljref7efn8430qvit8bsm"
+        b"ck0pojmg874ljref7efn8430qvit8bsm".as_slice()
     );
     assert_eq!(rt; hash_name(&name, 1, b"", 0), Err(TooManyIterations));
 }

@@ -1,6 +1,5 @@
 use Rattle.std.proofs.Common.{◌∙◌, arith, rules}
-use Rattle.domain_rdata_text.proofs.Octets.{octets_each}
-use Rattle.domain_nsec3.proofs.Digits.{group_written, group_sum, all_written, read_back}
+use Rattle.domain_nsec3.proofs.Digits.{group_written, group_sum, all_written}
 use Rattle.domain_nsec3.proofs.label.label_of_hash.Goals as goal
 
 pub group-preserved : goal.group-preserved
@@ -9,11 +8,6 @@ group-preserved c = record {
   sum = group_sum c.group.rest.now c.group.at _ (omega (arith, c.in-len5-up.len_at_least)) (omega arith) c.group.invariant.sum;
 }
 
-pub returns-clause-text : goal.returns-clause-text
-returns-clause-text c =
+pub returns : goal.returns
+returns c =
     all_written c.group.label _ c.group.rest.now c.group.at (search rules) c.group.invariant.sum (omega (arith, c.in_default.len_below)) c.group.invariant.written
-
-pub returns-clause-read_back : goal.returns-clause-read_back
-returns-clause-read_back c =
-    read_back c.group.label c.args.hash.now (search rules) (search rules) (octets_each c.args.hash.now (λ k. (c.type_inv.hash k).fits))
-    (all_written c.group.label _ c.group.rest.now c.group.at (search rules) c.group.invariant.sum (omega (arith, c.in_default.len_below)) c.group.invariant.written)
