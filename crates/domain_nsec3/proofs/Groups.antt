@@ -1,7 +1,7 @@
 -- Digits that are read, eight digits at a time.
 use Rattle.std.proofs.Common.{◌≡◌, ◌∙◌, ℕ, ◌+◌, ◌*◌, ◌≤◌, ◌<◌, zero, suc, Bool, true, false, ◌&&◌, List, [], ◌∷◌, ◌++◌, length, take, drop, get_or, refl, sym, ap, append_assoc, append-nil, true≢false, length-drop, arith}
 use borrow.Rule.Slice.PartMut.{put_mid}
-use Rattle.std.proofs.lemmas.List.{take_all, take-append-drop}
+use Rattle.std.proofs.lemmas.List.{length-take-le, take_all, take-append-drop}
 use Rattle.std.proofs.lemmas.List.Folds.{list_all-append}
 use Rattle.std.proofs.lemmas.Slice.{take-put_mid}
 use Rattle.std.specs.List.{list_all}
@@ -84,10 +84,10 @@ split_eight (a ∷ b ∷ c ∷ d ∷ e ∷ f ∷ g ∷ []) n = absurd (omega (ar
 split_eight (a ∷ b ∷ c ∷ d ∷ e ∷ f ∷ g ∷ h ∷ o) n = refl
 
 -- a group more is read
-pub group_read : (label hash o back octets copied : List ℕ) (at k : ℕ) → 8 ≤ length o → back ≡ drop 8 o → at ≤ length hash → length octets ≡ 5 → copied ≡ octets → octets ≡ octets_of_digits (take 8 o)
+pub group_read : (label hash o back octets copied : List ℕ) (at k : ℕ) → 8 ≤ length o → back ≡ drop 8 o → at ≤ length hash → copied ≡ octets → octets ≡ octets_of_digits (take 8 o)
     → octets_of_digits label ≡ take at hash ++ octets_of_digits o → octets_of_digits label ≡ take (at + 5) (put_mid at k hash copied) ++ octets_of_digits back
-group_read label hash o back octets copied at k some is_back inside five same reads whole =
-    let long : length copied ≡ 5 = ap length same ∙ five in
+group_read label hash o back octets copied at k some is_back inside same reads whole =
+    let long : length copied ≡ 5 = ap length same ∙ ap length (reads ∙ eight_alone (take 8 o) (length-take-le 8 o some)) in
     let made : take (at + 5) (put_mid at k hash copied) ≡ take at hash ++ octets =
     take-put_mid at k hash copied (at + 5) (omega (arith, long)) inside ∙ ap (λ (x : List ℕ). take at hash ++ x) same in
     let split : octets_of_digits o ≡ octets ++ octets_of_digits back =

@@ -5,7 +5,7 @@ use Rattle.domain_nsec3.proofs.label.hash_of_label.Goals as goal
 
 pub group-preserved : goal.group-preserved
 group-preserved c = record {
-  read = group_read c.args.label.now c.group.hash c.group.rest.now _ _ _ c.group.at _ (omega (arith, c.group-test.true)) (take_rest c.group.rest.now 8) (omega arith) (search rules) c.copy_from_slice.ensures.after
+  read = group_read c.args.label.now c.group.hash c.group.rest.now _ _ _ c.group.at _ (omega (arith, c.group-test.true)) (take_rest c.group.rest.now 8) (omega arith) c.copy_from_slice.ensures.after
       (c.octets_of-octets.ensures (front_digits c.group.rest.now c.group.invariant.digits)) c.group.invariant.read;
   digits = back_digits c.group.rest.now _ (take_rest c.group.rest.now 8) c.group.invariant.digits;
   sum = digits_sum c.group.rest.now _ c.group.at (take_rest c.group.rest.now 8) (omega (arith, c.group-test.true)) c.group.invariant.sum;
