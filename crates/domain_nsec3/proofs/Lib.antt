@@ -1,5 +1,1 @@
 pub mod Iterating
-pub mod Digits
-pub mod Groups
-pub mod Chaining
-pub mod Fields
