@@ -362,7 +362,7 @@ def field(data, kind, lowercase, special=b" .\\"):
 
 def text_of(shape, texts, whole):
     """The text of data: its fields, a word that is absent left out; or its octets, where a field has no text, or is empty that
-    must not be."""
+    must not be: with names written out, since a pointer leads nowhere outside of its message (RFC 3597, 4 and 5)."""
     if any(text is None or text == "" and kind not in "oMv" for kind, text in zip(shape, texts)):
         return unknown_text(whole)
     return " ".join(text for text in texts if text)
@@ -384,8 +384,11 @@ def of_any(rtype, data, shapes):
         if data.place < data.end:
             raise Refused("trailing data")
         length = "-" if "n" in shape else str(sum(map(len, composed)))
-        text = text_of(shape, texts, whole) if shapes is ALL else " ".join(texts)
-        return b"".join(composed), b"".join(canonical), length, text
+        plain = b"".join(composed)
+        # No record has more octets, so there is no such form of them: then they are shown as they are in the message.
+        shown = plain if len(plain) <= 65535 else whole
+        text = text_of(shape, texts, shown) if shapes is ALL else " ".join(texts)
+        return plain, b"".join(canonical), length, text
     if len(whole) > 65535:
         raise Refused("record data too long")
     return whole, None if rtype in LOWERCASE else whole, str(len(whole)), unknown_text(whole)

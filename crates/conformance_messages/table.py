@@ -468,6 +468,33 @@ LATER = (
 )
 
 
+# Data that is shown as its octets: the type, and what is before and after its name. A signature without octets, octets of
+# which no more is known, a bitmap without types, numbers of 48 bits, and octets behind two that count them.
+AROUND_NAME = (
+    (24, u16(30) + b"\1\3" + u32(3600) + u32(852174245) + u32(850298948) + u16(21435), b""),
+    (46, u16(1) + b"\5\3" + u32(86400) + u32(1048354263) + u32(1045762263) + u16(2642), b""),
+    (30, b"", b"\x62"), (30, b"", b""), (47, b"", b"\0\1\0"), (249, b"", bytes(12) + b"\0\1\1\0\0"), (250, b"", bytes(8) + b"\0\1\1" + bytes(6)),
+)
+
+
+def plain_rows(before, at):
+    topic("data of any type: as octets, where a name is compressed, and is written out (RFC 3597, 4 and 5)")
+    names = ((pointer(12), name("WWW.Example.com.")), (pointer(16), name("Example.com.")), (b"\2aB" + pointer(12), name("aB.WWW.Example.com.")),
+             (pointer(28), b"\0"), (name("Z."), name("Z.")))
+    for rtype, start, end in AROUND_NAME:
+        for compressed, whole in names:
+            data, plain = start + compressed + end, start + whole + end
+            row("any", rtype, before + data, at, len(data), told=f" \\# {len(plain)} {plain.hex(' ')}")
+    records = ((46, 1, AROUND_NAME[1][1] + END), (30, 1, AT + b"\x62"), (47, 1, END + b"\0\1\0"), (26, 3, u16(1) + AT + END), (PRIVATE, 1, AT))
+    shown, place = "", 33
+    for rtype, rclass, data in records:
+        shown += f"www.example.com./{rtype}/{CLASSES[rclass]}/3600/{place + 12}+{len(data)};"
+        place += 12 + len(data)
+    row("message", message([question(WWW)], [record(AT, rtype, data, rclass) for rtype, rclass, data in records]),
+        told=f"question=www.example.com./1/IN;@33 answer={shown}@{place} authority=@{place} additional=@{place}"
+             " sole=www.example.com./1/IN first=www.example.com./1/IN canonical=www.example.com.")
+
+
 def any_rows():
     topic("data of any type: by its fields where they are known, cut and too long, and as octets")
     for rtype, octets, text in ANY:
@@ -500,6 +527,7 @@ def any_rows():
             data = b"".join(last if place == len(shape) - 1 and kind in "nw" else fields[kind] for place, kind in enumerate(shape))
             row("any", rtype, before + data, at, len(data))
             row("any", rtype, before + data + b"\0", at, len(data))
+    plain_rows(before, at)
     topic("data of any type: drawn at random, and as long as it may be")
     rng = random.Random(2)
     for _row in range(1500):

@@ -12,11 +12,15 @@ import dns.zone
 
 
 def text_of(data):
-    """The text of data, base64 in one word, an IPv6 address as RFC 5952 has it, where dnspython keeps its spelling, and
-    the times of an RRSIG in seconds (RFC 4034, 3.2)."""
-    if data.rdtype == dns.rdatatype.AAAA:
-        return str(ipaddress.IPv6Address(data.address))
-    words = data.to_text(chunksize=0).split(" ")
+    """The text of data, base64 in one word, and an IPv6 address as RFC 5952 has it, where dnspython keeps its
+    spelling."""
+    is_ipv6 = data.rdtype == dns.rdatatype.AAAA
+    return str(ipaddress.IPv6Address(data.address)) if is_ipv6 else data.to_text(chunksize=0)
+
+
+def zone_text_of(data):
+    """The same with the times of an RRSIG in seconds (RFC 4034, 3.2)."""
+    words = text_of(data).split(" ")
     if data.rdtype == dns.rdatatype.RRSIG:
         words[4:6] = str(data.expiration), str(data.inception)
     return " ".join(words)
@@ -31,7 +35,7 @@ def lines(path):
         for rdataset in sorted(zone.nodes[name], key=lambda it: (it.rdtype, it.covers)):
             kind = dns.rdatatype.to_text(rdataset.rdtype)
             for data in sorted(rdataset, key=lambda it: it.to_wire(origin=dns.name.root)):
-                yield f"{name} {rdataset.ttl} IN {kind} {text_of(data)}"
+                yield f"{name} {rdataset.ttl} IN {kind} {zone_text_of(data)}"
 
 
 def main():

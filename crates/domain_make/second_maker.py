@@ -15,7 +15,6 @@ REMEMBERED, FARTHEST = 128, 0x3FFF
 SHORT = "an entry that is missing: message shows what is before it, and fails"
 UNREAD = "data that isn't of its type: make refuses it"
 PARAMETERS = "service parameters, whose text make doesn't read"
-POINTER = "a name that a pointer ends, in data that is shown as its octets"
 LONG = "a longer message than 65,535 octets, where the names in its data are whole"
 
 
@@ -76,9 +75,9 @@ def data_of(rtype, rclass, data):
     except messages.Refused:
         raise Refused(UNREAD) from None
     if text.startswith("\\# "):
-        if plain != whole:
-            raise Refused(POINTER)
-        return whole
+        if len(plain) > 65535:
+            raise Refused(LONG)
+        return plain
     if rtype in SERVICES:
         raise Refused(PARAMETERS)
     return fields_of(rtype, again)

@@ -100,10 +100,10 @@ def fill_second(zones):
 
 def asked_of(text):
     """What `ask` printed: the response code, AA, and the sections."""
-    head, *parts = re.split(r"^;; (\w+) SECTION:\n", text, flags=re.M)
-    rcode, flags = re.fullmatch(r";; status: (\w+), flags: (.*)\n", head).groups()
+    head, *parts = re.split(r"^;; (\w+) SECTION\n", text, flags=re.M)
+    rcode, flags = re.fullmatch(r";; opcode: QUERY, status: (\w+), id: 0\n;; flags:([^;]*); .*\n", head).groups()
     parts = dict(zip(parts[::2], parts[1::2], strict=True))
-    sections = (frozenset(map(record, parts.get(it.upper(), "").splitlines())) for it in SECTIONS)
+    sections = (frozenset(map(record, parts[it.upper()].splitlines())) for it in SECTIONS)
     return rcode, "aa" in flags.split(), *sections
 
 

@@ -1,1 +1,3 @@
 mod Giving
+pub mod Slots
+pub mod Values

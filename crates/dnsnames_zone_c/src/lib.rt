@@ -4,6 +4,8 @@
 //! names the numbers that calls answer.
 #![tactic(auto)]
 
+mod loose;
 mod number;
 mod put;
+mod slot;
 mod zone;

@@ -9,13 +9,13 @@ ghost use Rattle.dnsnames_zone_c.specs.Zones.{AnswersFrom, GivesResponse, IsHeld
 
 use crate::number::{number_of, place_of_error};
 use crate::put::give;
+use crate::slot::ZoneSlot;
 use domain_compress::CompressComposer;
 use domain_header::Class;
 use domain_name::Name;
 use domain_zone::{Owner, Zone};
 use domain_zone_load::{LoadError, load};
 use domain_zone_response::{Server, Transport, respond_to};
-use domain_zone_slot::ZoneSlot;
 use octseq::Octets;
 use std::alloc::{AllocError, Global};
 

@@ -49,6 +49,26 @@ fn put_digits(octets: &[u8], out: &mut Vec<u8>) -> Result<(), AllocError> {
     Ok(())
 }
 
+/// Returns the message that answers a query from a zone. `None` where no message is sent.
+pub fn answer_to(
+    alloc: Global,
+    zone: &Zone,
+    query: &[u8],
+    transport: Transport,
+) -> Result<Option<Vec<u8>>, AllocError> {
+    let server = Server {
+        transport,
+        payload_size: PAYLOAD_SIZE,
+    };
+    let target = CompressComposer::new(Vec::new(alloc));
+    match respond_to(alloc, zone, query, server, target) {
+        Ok(None) => Ok(None),
+        Ok(Some(made)) => Ok(Some(made.into_target())),
+        Err(ResponseError::NoRoom) => Err(AllocError),
+        Err(ResponseError::Memory) => Err(AllocError),
+    }
+}
+
 /// Appends the digits of the message that answers a query from a zone, and the end of the line. The line is empty
 /// where no message is sent.
 pub fn put_answer(
@@ -58,16 +78,8 @@ pub fn put_answer(
     transport: Transport,
     out: &mut Vec<u8>,
 ) -> Result<(), AllocError> {
-    let server = Server {
-        transport,
-        payload_size: PAYLOAD_SIZE,
-    };
-    let target = CompressComposer::new(Vec::new(alloc));
-    match respond_to(alloc, zone, query, server, target) {
-        Ok(None) => (),
-        Ok(Some(made)) => put_digits(made.into_target().as_slice(), out)?,
-        Err(ResponseError::NoRoom) => return Err(AllocError),
-        Err(ResponseError::Memory) => return Err(AllocError),
+    if let Some(message) = answer_to(alloc, zone, query, transport)? {
+        put_digits(message.as_slice(), out)?;
     }
     out.push(b'\n')?;
     Ok(())

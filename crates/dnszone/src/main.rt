@@ -1,31 +1,28 @@
 //! Reads the text of a zone from standard input. `dnszone check` prints its records in canonical order, or why they
-//! are no zone. `dnszone ask NAME TYPE` prints the response to a question, `dnszone answer QUERY..` the messages
-//! that answer queries.
+//! are no zone. `dnszone ask NAME TYPE` prints the message that answers a question, `dnszone answer QUERY..` in
+//! hexadecimal digits those that answer queries.
 //!
 //! README.md lists what is read and printed.
 #![tactic(auto)]
 
 mod answer;
-mod load;
-mod print;
+mod ask;
 mod reasons;
-mod response;
+mod zone;
 
 use crate::answer::{octets_of, put_answer};
-use crate::load::{LoadError, load};
-use crate::print::{Front, put_record};
-use crate::response::put_response;
+use crate::ask::put_response;
+use crate::zone::{TextFault, zone_of};
 use domain_builder::FromStrError;
-use domain_header::Class;
 use domain_message::rtype_from_text;
 use domain_name::Name;
 use domain_rdata::Rtype;
 use domain_tool::start::{Program, start};
 use domain_tool::tool::{ToolError, read_all};
-use domain_zone::{Owner, Zone};
-use domain_zone_laws::ttl::record_ttl;
-use domain_zone_laws::zone::Rrset;
+use domain_zone::Owner;
+use domain_zone_load::LoadError;
 use domain_zone_response::Transport;
+use domain_zone_write::write_zone;
 use std::alloc::{AllocError, Global};
 use std::io::{Read, Write};
 use std::process::ExitCode;
@@ -41,18 +38,18 @@ pub enum Failure {
     /// The words aren't those of the usage.
     Usage,
     /// The text is that of no zone.
-    NoZone(LoadError),
+    NoZone(TextFault),
     /// An allocation failed.
     Memory,
     /// Reading or writing failed.
     Stream,
 }
 
-impl From<LoadError> for Failure {
-    fn from(error: LoadError) -> Failure {
-        match error {
-            LoadError::Memory => Failure::Memory,
-            _ => Failure::NoZone(error),
+impl From<TextFault> for Failure {
+    fn from(fault: TextFault) -> Failure {
+        match fault {
+            TextFault::Load(LoadError::Memory) => Failure::Memory,
+            _ => Failure::NoZone(fault),
         }
     }
 }
@@ -61,33 +58,6 @@ impl From<AllocError> for Failure {
     fn from(_: AllocError) -> Failure {
         Failure::Memory
     }
-}
-
-/// Appends the records of an RRset.
-fn put_set(
-    alloc: Global,
-    class: Class,
-    set: &Rrset<Owner>,
-    out: &mut Vec<u8>,
-) -> Result<(), AllocError> {
-    for octets in set.rdata.as_slice() {
-        let front = Front {
-            owner: set.owner.for_slice(),
-            ttl: record_ttl(set, octets.as_slice()),
-            class,
-            rtype: set.rtype,
-        };
-        put_record(alloc, front, octets.as_slice(), out)?;
-    }
-    Ok(())
-}
-
-/// Appends the records of a zone, in canonical order.
-fn put_zone(alloc: Global, zone: &Zone, out: &mut Vec<u8>) -> Result<(), AllocError> {
-    for set in zone.rrsets() {
-        put_set(alloc, zone.class(), set, out)?;
-    }
-    Ok(())
 }
 
 /// What the words ask for.
@@ -149,13 +119,13 @@ fn shown<R: Read>(alloc: Global, words: &[&str], input: &mut R) -> Result<Vec<u8
         Err(ToolError::Memory) => return Err(Failure::Memory),
         Err(_) => return Err(Failure::Stream),
     };
-    let zone = load(alloc, text.as_slice())?;
+    let zone = zone_of(alloc, text.as_slice())?;
     let mut out = Vec::new(alloc);
     match &asked {
-        Asked::Records => put_zone(alloc, &zone, &mut out)?,
+        Asked::Records => out = write_zone(alloc, &zone)?,
         Asked::Response(name, rtype, dnssec_ok) => {
             let name = name.for_slice();
-            put_response(alloc, &zone, &name, *rtype, *dnssec_ok, &mut out)?;
+            put_response(alloc, &zone, name, *rtype, *dnssec_ok, &mut out)?;
         }
         Asked::Messages(transport, queries) => {
             for query in queries.as_slice() {

@@ -73,6 +73,10 @@ pub use Rattle.domain_stream.specs.Laws as StreamLaws
 pub use Rattle.domain_message.specs.Options
 pub use Rattle.domain_message.specs.OptRecords
 pub use Rattle.domain_message.specs.OptDataViews
+pub use Rattle.domain_message.specs.FirstOptions
+pub use Rattle.domain_message.specs.LastRecords
+pub use Rattle.domain_message.specs.TsigFields
+pub use Rattle.domain_message.specs.TsigRecords
 pub use Rattle.domain_fields.specs.Data as FieldData
 pub use Rattle.domain_fields.specs.Names as FieldNames
 pub use Rattle.domain_fields.specs.Sequences

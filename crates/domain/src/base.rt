@@ -109,9 +109,9 @@ pub mod message {
 pub mod message_builder {
     pub use domain_message_builder::{
         AdditionalBuilder, AdditionalSection, AnswerBuilder, AnswerSection, AuthorityBuilder,
-        AuthoritySection, MarkedBuilder, MessageBuilder, OptBuilder, PushError, QuestionBuilder,
-        RecordBuilder, RecordSection, SectionError, StartError, builder_laws,
-        pushed_data_reads_back,
+        AuthoritySection, MarkedBuilder, MessageBuilder, OptBuilder, PushError, PushOptionError,
+        QuestionBuilder, RecordBuilder, RecordSection, SectionError, StartError, builder_laws,
+        option_laws, pushed_data_reads_back,
     };
 }
 
@@ -126,8 +126,13 @@ pub mod stream {
 pub mod opt {
     pub use domain_message::{
         ClientSubnet, Cookie, EdnsOption, ExtendedError, Nsid, OptData, OptError, OptIter,
-        OptRecord, opt_of,
+        OptRecord, Padding, TcpKeepalive, opt_of,
     };
+}
+
+/// TSIG and SIG(0) records that are read (RFC 8945; RFC 2931).
+pub mod tsig {
+    pub use domain_message::{Sig0, Tsig, TsigData, TsigError, sig0_of, tsig_of};
 }
 
 /// Questions (RFC 1035, 4.1.2).

@@ -1,9 +1,12 @@
 -- The text of data, field by field.
-use Rattle.std.proofs.Common.{◌≡◌, ◌∙◌, ℕ, Bool, true, false, List, [], ◌∷◌, ◌++◌, drop, Option, None, Some, refl, sym, ap, subst, append_assoc, append-nil}
-use Rattle.std.specs.Prelude.{is_some, option_map, slice_range}
+use Rattle.std.proofs.Common.{◌≡◌, ◌∙◌, ℕ, ◌≤◌, ◌<◌, Bool, true, false, nat_le, if◌then◌else◌, List, [], ◌∷◌, ◌++◌, length, drop, Option, None, Some, refl, sym, ap, subst, arith, append_assoc, append-nil}
+use Rattle.std.specs.Prelude.{is_some, option_map, slice_range, codes}
+use Rattle.std.proofs.Math.Seq.{drop-append_seam}
 use Rattle.std.proofs.lemmas.Bool.{false≢true}
-use Rattle.std.proofs.lemmas.Grind.{put_two}
-use Rattle.std.specs.Fmt.{HasWritten}
+use Rattle.std.proofs.lemmas.Bool.Decides.{nat_tests}
+use Rattle.std.proofs.lemmas.Grind.{put_two, flat_map-append}
+use Rattle.std.specs.Fmt.{HasWritten, decimal}
+use Rattle.std.specs.List.{flat_map}
 use Rattle.std.specs.declared.fmt.Formatter.{Formatter}
 use Rattle.domain_descriptor.specs.Rdatas.{rdata_begin, field_kind, field_message, field_begin, field_after, IsRdata}
 use Rattle.domain_descriptor.specs.Table.{known_fields}
@@ -18,10 +21,13 @@ use Rattle.domain_field_text.specs.declared.field.FieldText.{FieldText}
 use Rattle.domain_fields.specs.Parts.{Part}
 use Rattle.domain_reading.specs.Grammar.{Names}
 use Rattle.domain_list.specs.Moving.{HasMoved}
-use Rattle.domain_rdata.specs.AnyData.{unknown_text}
+use Rattle.domain_rdata.specs.AnyData.{spaced_octet, unknown_text}
+use Rattle.domain_any_rdata.proofs.Cutting.{hand_first}
 use Rattle.domain_any_rdata.proofs.Named.{parts_of_data, named_part, octets_part}
 use Rattle.domain_any_rdata.specs.Parts.{parts_at, part_of, raw_octets, rdata_parts}
-use Rattle.domain_any_rdata.specs.Texts.{part_text, IsTold, both_texts, text_or_nothing, parts_text, text_or_octets, fields_text, rdata_text, shown_data}
+use Rattle.domain_any_rdata.specs.Readers.{remaining_octets, in_hand}
+use Rattle.domain_any_rdata.specs.declared.reader.OctetReader.{OctetReader}
+use Rattle.domain_any_rdata.specs.Texts.{part_text, IsTold, both_texts, text_or_nothing, parts_text, text_or_octets, plain_octets, fields_text, rdata_text, shown_data}
 
 -- the remaining fields, where one was taken
 one_taken : (b : Bool) (ks rest : List FieldKind) (k : FieldKind) (xs others : List Part) (x : Part) → ks ≡ k ∷ rest → xs ≡ x ∷ others
@@ -113,6 +119,46 @@ told_first took f all ks xs others told kinds parts nothing =
 pub untold : (all : Option (List ℕ)) (octets : List ℕ) → is_some all ≡ false → unknown_text octets ≡ text_or_octets all octets
 untold None octets told = refl
 untold (Some t) octets told = absurd (false≢true (sym told))
+
+few_picked : (few : Bool) (n : ℕ) (whole raw : List ℕ) → nat_le n 65535 ≡ few → n ≤ 65535 → whole ≡ (if few then whole else raw)
+few_picked true n whole raw is few = refl
+few_picked false n whole raw is few = absurd (grind (arith, nat_tests))
+
+many_picked : (few : Bool) (n : ℕ) (whole raw : List ℕ) → nat_le n 65535 ≡ few → 65535 < n → raw ≡ (if few then whole else raw)
+many_picked true n whole raw is many = absurd (grind (arith, nat_tests))
+many_picked false n whole raw is many = refl
+
+-- octets with no name compressed
+pub plain_whole : (whole raw : List ℕ) (n : ℕ) → length whole ≡ n → n ≤ 65535 → codes "\\# " ++ (decimal n ++ flat_map spaced_octet whole) ≡ unknown_text (plain_octets whole raw)
+plain_whole whole raw n is few =
+    ap (λ (k : ℕ). codes "\\# " ++ (decimal k ++ flat_map spaced_octet whole)) (sym is)
+    ∙ ap unknown_text (few_picked (nat_le (length whole) 65535) (length whole) whole raw refl (omega (arith, is, few)))
+
+-- and those of the message, of data that no record can have
+pub plain_raw : (whole raw : List ℕ) → 65535 < length whole → unknown_text raw ≡ unknown_text (plain_octets whole raw)
+plain_raw whole raw many = ap unknown_text (many_picked (nat_le (length whole) 65535) (length whole) whole raw refl many)
+
+-- ---- octets that are taken from the left
+pub pairs_taken : {W : Type 0} (took : W → List ℕ → W → Type 0) (f g h : Formatter W) (all : List ℕ) (left : OctetReader) (before hand rest : List ℕ) → remaining_octets left ≡ before → hand ≡ in_hand left
+    → HasMoved took f (flat_map spaced_octet all) (flat_map spaced_octet before) g → rest ≡ drop (length hand) (remaining_octets left) → HasWritten took g (flat_map spaced_octet hand) h
+    → HasMoved took f (flat_map spaced_octet all) (flat_map spaced_octet rest) h
+pairs_taken took f g h all left before hand rest same in_it m is wrote =
+    let first = hand_first left in
+    let whole : remaining_octets left ≡ hand ++ first.rest = first.is ∙ ap (λ (x : List ℕ). x ++ first.rest) (sym in_it) in
+    let there : rest ≡ first.rest = is ∙ ap (λ (x : List ℕ). drop (length hand) x) whole ∙ drop-append_seam hand first.rest in
+    let piece = flat_map spaced_octet hand in
+    let cut : flat_map spaced_octet before ≡ piece ++ flat_map spaced_octet rest =
+    ap (flat_map spaced_octet) (sym same ∙ whole ∙ ap (λ (x : List ℕ). hand ++ x) (sym there)) ∙ flat_map-append spaced_octet hand rest in
+    record {
+      done = m.done ++ piece;
+      parts = m.parts ∙ (ap (λ (t : List ℕ). m.done ++ t) cut ∙ sym (append_assoc m.done piece (flat_map spaced_octet rest)));
+      wrote = put_two took f g h m.done piece (m.done ++ piece) m.wrote wrote refl;
+    }
+
+pub pairs_all : {W : Type 0} (took : W → List ℕ → W → Type 0) (f g : Formatter W) (all left : List ℕ) → HasMoved took f (flat_map spaced_octet all) (flat_map spaced_octet left) g → left ≡ [] → HasWritten took f (flat_map spaced_octet all) g
+pairs_all took f g all left m none =
+    let whole : m.done ≡ flat_map spaced_octet all = sym (m.parts ∙ (ap (λ (t : List ℕ). m.done ++ flat_map spaced_octet t) none ∙ append-nil m.done)) in
+    subst (λ (t : List ℕ). HasWritten took f t g) whole m.wrote
 
 -- ---- one field
 kept : {A : Type 0} (make : A → List ℕ) (held : Option A) → is_some (option_map make held) ≡ is_some held

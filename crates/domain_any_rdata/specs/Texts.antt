@@ -1,11 +1,11 @@
 -- The text of record data: its fields by the table of types, with a space between two words (RFC 1035, 5.1), or its
--- octets in the form for unknown types (RFC 3597, 5).
-use Rattle.std.specs.Prelude.{◌≡◌, ℕ, is_some, Bool, true, false, List, [], ◌∷◌, ◌++◌, drop, Option, Some, None}
+-- octets in the form for unknown types, with no name compressed (RFC 3597, 4 and 5).
+use Rattle.std.specs.Prelude.{◌≡◌, ℕ, is_some, Bool, true, false, nat_le, if◌then◌else◌, List, [], ◌∷◌, ◌++◌, length, drop, Option, Some, None}
 use Rattle.domain_descriptor.specs.Rdatas.{rdata_kinds}
 use Rattle.domain_descriptor.specs.Table.{known_fields}
 use Rattle.domain_descriptor.specs.declared.kind.FieldKind.{FieldKind}
 use Rattle.domain_descriptor.specs.declared.rdata.Rdata.{Rdata}
-use Rattle.domain_fields.specs.Parts.{Part, a_name, no_name}
+use Rattle.domain_fields.specs.Parts.{Part, a_name, no_name, parts_octets}
 use Rattle.domain_rdata.specs.AnyData.{unknown_text}
 use Rattle.domain_field_text.specs.FieldTexts.{lead, field_octets_text}
 use Rattle.domain_field_text.specs.Names.{zone_name}
@@ -43,9 +43,15 @@ abbrev pub text_or_octets : Option (List ℕ) → List ℕ → List ℕ
 text_or_octets None octets = unknown_text octets
 text_or_octets (Some text) octets = text
 
--- the text of data with fields of these kinds, which are these parts and have these octets
+-- The octets that data is shown as where it has no other text: those with no name compressed, since a pointer leads
+-- nowhere outside of its message (RFC 3597, 4). No record has data of more than 65,535 octets (RFC 1035, 3.2.1): where
+-- they would be more, they are those of the message.
+abbrev pub plain_octets : List ℕ → List ℕ → List ℕ
+plain_octets whole raw = if nat_le (length whole) 65535 then whole else raw
+
+-- the text of data with fields of these kinds, which are these parts and have these octets in the message
 abbrev pub fields_text : List FieldKind → List Part → List ℕ → List ℕ
-fields_text kinds parts octets = text_or_octets (parts_text true kinds parts) octets
+fields_text kinds parts raw = text_or_octets (parts_text true kinds parts) (plain_octets (parts_octets false parts) raw)
 
 -- the text of data that was read
 abbrev pub rdata_text : Rdata → List ℕ

@@ -122,6 +122,56 @@ fn service_binding(rt: HostRuntime) {
     assert!(rt; data.canonical_cmp(&other) == Ordering::Less);
 }
 
+/// Whether this is the text of data.
+fn is_shown(rt: &HostRuntime, data: &AllRecordData<'_>, text: &str) -> bool {
+    match format!(in rt.alloc(); "{data}") {
+        Ok(shown) => shown.as_str() == text,
+        Err(_) => false,
+    }
+}
+
+/// Octets of a known type that have no other text are shown with no name compressed (RFC 3597, 4 and 5): those of NXT
+/// (RFC 2535, 5.2), and of RRSIG without a signature. Octets of another type are shown as they are.
+#[test]
+fn shown_octets(rt: HostRuntime) {
+    let message = b"\x01A\x00\x01b\xc0\x00\x62";
+    let (Some(nxt), Some(other)) = (read(30, message, 3), read(65280, message, 3)) else {
+        return assert!(rt; false);
+    };
+    assert!(rt; is_shown(&rt, &nxt, "\\# 6 01 62 01 41 00 62"));
+    assert!(rt; is_shown(&rt, &other, "\\# 5 01 62 c0 00 62"));
+    let message =
+        b"\x01A\x00\x00\x01\x05\x00\x00\x00\x00\x01\x00\x00\x00\x02\x00\x00\x00\x03\x00\x04\xc0\x00";
+    let Some(rrsig) = read(46, message, 3) else {
+        return assert!(rt; false);
+    };
+    let text = "\\# 21 00 01 05 00 00 00 00 01 00 00 00 02 00 00 00 03 00 04 01 41 00";
+    assert!(rt; is_shown(&rt, &rrsig, text));
+}
+
+/// Where the octets with no name compressed are 65,535, all are shown; where they would be more, those of the message.
+#[test]
+fn longest_shown(rt: HostRuntime) {
+    let mut message = Vec::new(rt.alloc());
+    assert!(rt; message.extend_from_slice(b"\x01A\x00\xc0\x00").is_ok());
+    assert!(rt; message.resize(5 + 65533, 0).is_ok());
+    let all = message.as_slice();
+    let Some(most) = all.get(..5 + 65532) else {
+        return assert!(rt; false);
+    };
+    let (Some(whole), Some(longer)) = (read(30, most, 3), read(30, all, 3)) else {
+        return assert!(rt; false);
+    };
+    match format!(in rt.alloc(); "{whole}") {
+        Ok(text) => assert!(rt; text.as_str().starts_with("\\# 65535 01 41 00 00 00")),
+        Err(_) => assert!(rt; false),
+    }
+    match format!(in rt.alloc(); "{longer}") {
+        Ok(text) => assert!(rt; text.as_str().starts_with("\\# 65535 c0 00 00 00")),
+        Err(_) => assert!(rt; false),
+    }
+}
+
 /// The class tells which fields data of A has (RFC 1035, 3.4.1).
 #[test]
 fn classes(rt: HostRuntime) {

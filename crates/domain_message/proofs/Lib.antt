@@ -3,7 +3,11 @@ pub mod Comparing
 pub mod ComposingRecords
 pub mod DataStanding
 pub mod FindingOpt
+pub mod FindingTsig
+pub mod LastRecords
+pub mod NamedOptions
 pub mod Names
 pub mod OneList
 pub mod Sections
 pub mod Skipping
+pub mod TsigNames

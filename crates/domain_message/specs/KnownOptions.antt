@@ -1,5 +1,5 @@
 -- What the data of options says whose codes are known.
-use Rattle.std.specs.Prelude.{if◌then◌else◌, ◌≡◌, ◌≢◌, ◌⊎◌, ℕ, nat_eq, ◌+◌, ◌-◌, ◌/◌, ◌%◌, ◌^◌, ◌<◌, ◌≤◌, List, [], ◌∷◌, ◌++◌, length, drop, slice_index, codes, Option, Some, None}
+use Rattle.std.specs.Prelude.{if◌then◌else◌, ◌≡◌, ◌≢◌, ◌⊎◌, ℕ, nat_eq, ◌+◌, ◌-◌, ◌*◌, ◌/◌, ◌%◌, ◌^◌, ◌<◌, ◌≤◌, List, [], ◌∷◌, ◌++◌, length, take, drop, slice_index, codes, Option, Some, None}
 use Rattle.std.specs.List.{flat_map}
 use Rattle.domain_label.specs.Hex.{hex_digit}
 use Rattle.domain_header.specs.Numbers.{number16}
@@ -36,6 +36,16 @@ IsCookie octets_of octets client (Some server) = (length client ≡ 8) × (8 ≤
 pub data IsCookieFault (n : ℕ) (why : Refusal) : Type 0 where
   short : n < 8 → why ≡ short_input → IsCookieFault n why
   server : 8 < n → (n < 16) ⊎ (40 < n) → why ≡ form (codes "server cookie of a wrong length") → IsCookieFault n why
+
+-- The client's cookie has 8 octets, and the server's, if there is one, 8 to 32.
+abbrev pub HaveLengths : {S : Type 0} → (S → List ℕ) → List ℕ → Option S → Type 0
+HaveLengths octets_of client None = length client ≡ 8
+HaveLengths octets_of client (Some it) = (length client ≡ 8) × (8 ≤ length (octets_of it)) × (length (octets_of it) ≤ 32)
+
+-- The client's cookie has another length, or else the server's has.
+pub data IsLengthFault {S : Type 0} (octets_of : S → List ℕ) (client : List ℕ) (server : Option S) (why : Refusal) : Type 0 where
+  first : length client ≢ 8 → why ≡ form (codes "client cookie of a wrong length") → IsLengthFault octets_of client server why
+  second : (it : S) → server ≡ Some it → length client ≡ 8 → (length (octets_of it) < 8) ⊎ (32 < length (octets_of it)) → why ≡ form (codes "server cookie of a wrong length") → IsLengthFault octets_of client server why
 
 -- how many octets have so many bits of an address
 abbrev pub octets_of_prefix : ℕ → ℕ
@@ -79,6 +89,24 @@ pub data IsAddressFault (source : ℕ) (address : List ℕ) (why : Refusal) : Ty
   fewer : length address < octets_of_prefix source → why ≡ short_input → IsAddressFault source address why
   more : octets_of_prefix source < length address → why ≡ form (codes "address longer than its prefix") → IsAddressFault source address why
   bits : length address ≡ octets_of_prefix source → (EndsInZeros address source → ⊥) → why ≡ form (codes "address has bits after its prefix") → IsAddressFault source address why
+
+-- the octet of an address that has some of its first bits and others, with these others zero
+abbrev pub cut_octet : List ℕ → ℕ → Option ℕ
+cut_octet address source = if nat_eq (source % 8) 0 then None else Some (slice_index address (source / 8) / 2 ^ (8 - source % 8) * 2 ^ (8 - source % 8))
+
+-- these octets, and after them one more, if there is one
+abbrev pub with_last : List ℕ → Option ℕ → List ℕ
+with_last octets None = octets
+with_last octets (Some last) = octets ++ last ∷ []
+
+-- the first bits of an address, in as few octets as have them, which end in zeros (RFC 7871, 6)
+abbrev pub cut_bits : List ℕ → ℕ → List ℕ
+cut_bits address source = with_last (take (source / 8) address) (cut_octet address source)
+
+-- Why an address of this family can't be cut to so many bits: they can't be told of it, or it has fewer.
+pub data IsCutFault (family source : ℕ) (address : List ℕ) (why : Refusal) : Type 0 where
+  prefix : IsPrefixFault family source why → IsCutFault family source address why
+  fewer : IsPrefix family source → length address < octets_of_prefix source → why ≡ short_input → IsCutFault family source address why
 
 -- Why octets are no client's subnet, the first reason in this order.
 pub data IsSubnetFault (octets : List ℕ) (why : Refusal) : Type 0 where

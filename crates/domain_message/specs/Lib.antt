@@ -7,10 +7,12 @@ pub mod Composing
 pub mod Entries
 pub mod EntryLaws
 pub mod EntryViews
+pub mod FirstOptions
 pub mod HeaderLaws
 pub mod Kept
 pub mod KnownOptions
 pub mod KnownViews
+pub mod LastRecords
 pub mod LeftToTarget
 pub mod MayCompose
 pub mod Members
@@ -36,3 +38,6 @@ pub mod Sole
 pub mod Targets
 pub mod TextViews
 pub mod Texts
+pub mod TransportOptions
+pub mod TsigFields
+pub mod TsigRecords

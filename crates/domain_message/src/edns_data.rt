@@ -1,9 +1,9 @@
 //! The data of an OPT record.
-ghost use Rattle.std.specs.Prelude.{◌≡◌, ℕ, List, nat_eq};
+ghost use Rattle.std.specs.Prelude.{◌≡◌, ℕ, IfOk, IfErr, List, nat_eq};
 ghost use Rattle.domain_message.specs.Options.{AreAllThatIsLeft};
 ghost use Rattle.domain_message.specs.OptionReading.{options_reading};
 
-use crate::edns_options::OptIter;
+use crate::edns_options::{EdnsOption, OptIter};
 use domain_rdata::{ParseRecordData, RecordData, Rtype};
 use domain_wire::ParseError;
 use octseq::Parser;
@@ -20,7 +20,9 @@ pub struct OptData<'a> {
 }
 
 impl<'a> OptData<'a> {
+    ghost use Rattle.domain_message.specs.FirstOptions.{FindsOption, IsCutBefore};
     ghost use Rattle.domain_message.specs.OptDataViews.{opt_octets, options_left};
+    ghost use Rattle.domain_wire.specs.declared.error.ParseError.TheVariants.{ShortInput};
 
     /// The octets.
     pub fn as_slice(&self) -> &'a [u8]
@@ -34,6 +36,27 @@ impl<'a> OptData<'a> {
         ensures { options_left result ≡ opt_octets self.now }
     {
         OptIter::new(self.octets)
+    }
+
+    /// Returns the first option of this code. `None` exactly where the octets are whole options of other codes.
+    ///
+    /// `ShortInput` exactly where they end inside an option, and none before it is of the code.
+    pub fn first(&self, code: u16) -> Result<Option<EdnsOption<'a>>, ParseError>
+        ensures ok { IfOk result (FindsOption code (opt_octets self.now)) }
+        ensures err { IfErr result (λ e. IsCutBefore code (opt_octets self.now)) }
+        ensures short { IfErr result (λ e. e ≡ ShortInput) }
+    {
+        let mut rest = self.octets;
+        while !rest.is_empty() {
+            let Some((option, after)) = EdnsOption::split_from(rest) else {
+                return Err(ParseError::ShortInput);
+            };
+            if option.code == code {
+                return Ok(Some(option));
+            }
+            rest = after;
+        }
+        Ok(None)
     }
 }
 

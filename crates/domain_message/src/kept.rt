@@ -114,6 +114,15 @@ impl<'a, D: ParseRecordData<'a>, E: From<ParseError>> Iterator for RecordIter<'a
     }
 }
 
+impl<'a, D, E> RecordIter<'a, D, E> {
+    /// How many records are still to be read: none after an error.
+    pub(crate) fn left(&self) -> u16
+        ensures { result ≡ kept_left self.now }
+    {
+        self.count
+    }
+}
+
 impl<'a> RecordSection<'a> {
     ghost use Rattle.domain_message.specs.Sections.{records_message, records_offset, records_left, entries_left};
 

@@ -1,25 +1,18 @@
 //! What options say whose codes are known.
-ghost use Rattle.std.specs.Prelude.{◌≡◌, ◌↔◌, ◌<◌, ◌-◌, ◌^◌, IfOk, IfErr, OnOk, IsTrue, Some, length};
+ghost use Rattle.std.specs.Prelude.{◌≡◌, ◌↔◌, ◌<◌, ◌*◌, ◌-◌, ◌/◌, ◌^◌, IfOk, IfErr, OnOk, IsTrue, MatchResult, Some, length};
 ghost use Rattle.domain_wire.specs.Refusals.{refusal};
 ghost use Rattle.domain_message.specs.KnownOptions.{IsCookieFault, family_bits, octets_of_prefix, IsPrefix, IsPrefixFault, IsAddress};
 ghost use Rattle.domain_message.specs.KnownOptions.{IsAddressFault, EndsInZeros, IsSubnetFault, octet_digits, nsid_text};
 ghost use Rattle.domain_message.specs.KnownViews.{ReadAs, NotReadAs, SayNsid, SayError, IsErrorFault, SayCookies, SaySubnet};
+ghost use Rattle.domain_message.specs.KnownViews.{IsText, NotText, CanBeWritten, CannotBeWritten, IsCut, CannotCut};
 
 use crate::edns_options::EdnsOption;
+use crate::option_codes::{CLIENT_SUBNET, COOKIE, EXTENDED_ERROR, NAME_SERVER_IDENTIFIER};
 use domain_header::numbers::number_of_16_bits;
 use domain_label::hex::hex_character;
 use domain_wire::ParseError;
 use std::fmt;
-
-/// The codes of the options that are read here, of IANA's registry of EDNS option codes of 6 December 2022:
-/// `evidence/compare/registries` compares them with a copy of that day.
-const NAME_SERVER_IDENTIFIER: u16 = 3;
-
-const CLIENT_SUBNET: u16 = 8;
-
-const COOKIE: u16 = 10;
-
-const EXTENDED_ERROR: u16 = 15;
+use std::str::{Utf8Error, from_utf8};
 
 /// The identifier of the name server that answered (RFC 5001, 2.3), shown as two hexadecimal digits for each octet
 /// (2.4).
@@ -97,6 +90,13 @@ impl<'a> ExtendedError<'a> {
             text: &octets[2..],
         }))
     }
+
+    /// The text as a string: an error exactly where it isn't UTF-8, as it must be (RFC 8914, 2).
+    pub fn utf8_text(&self) -> Result<&'a str, Utf8Error>
+        ensures { MatchResult result (IsText self.now) (λ _. NotText self.now) }
+    {
+        from_utf8(self.text)
+    }
 }
 
 /// Cookies, by which a client and a server know each other again (RFC 7873, 4).
@@ -139,6 +139,26 @@ impl<'a> Cookie<'a> {
             client,
             server: Some(server),
         }))
+    }
+
+    /// Checks the lengths of these cookies: an option that says them can be written exactly where there is no error.
+    ///
+    /// A form error where the client's hasn't 8 octets, or else the server's has fewer than 8 or more than 32.
+    pub fn check(&self) -> Result<(), ParseError>
+        ensures ok { OnOk result (CanBeWritten self.now) }
+        ensures err { IfErr result (λ e. CannotBeWritten self.now (refusal e)) }
+    {
+        if self.client.len() != 8 {
+            return Err(ParseError::form_error("client cookie of a wrong length"));
+        }
+        let Some(server) = self.server else {
+            return Ok(());
+        };
+        let len = server.len();
+        if len < 8 || len > 32 {
+            return Err(ParseError::form_error("server cookie of a wrong length"));
+        }
+        Ok(())
     }
 }
 
@@ -183,6 +203,16 @@ fn multiple_of(first: u8) -> u8
         6 => 4,
         _ => 2,
     }
+}
+
+/// The octet with the bits after its first ones zero.
+fn first_bits(octet: u8, first: u8) -> u8
+    requires some { 0 < first }
+    requires few { first < 8 }
+    ensures { result ≡ octet / 2 ^ (8 - first) * 2 ^ (8 - first) }
+{
+    let multiple = multiple_of(first);
+    octet / multiple * multiple
 }
 
 /// Whether the bits after the first ones are zero, in the last octet that has any of these.
@@ -260,5 +290,30 @@ impl<'a> ClientSubnet<'a> {
             scope_prefix_len: octets[3],
             address,
         }))
+    }
+
+    /// Returns the address cut to the bits that are encoded: its octets that are whole in them, and after these, if
+    /// some of its bits are, one whose other bits are zero (RFC 7871, 6). What the address has beyond them is left
+    /// out.
+    ///
+    /// Returns a form error if and only if the family isn't 0, 1 or 2, or more bits are encoded than its addresses
+    /// have. Otherwise, returns `ShortInput` if and only if the address has fewer octets than these bits take.
+    pub fn cut_address(&self) -> Result<(&'a [u8], Option<u8>), ParseError>
+        ensures ok { IfOk result (λ cut. IsCut self.now cut.0.now cut.1) }
+        ensures err { IfErr result (λ e. CannotCut self.now (refusal e)) }
+    {
+        let source = self.source_prefix_len;
+        if let Err(e) = check_prefix(self.family, source) {
+            return Err(e);
+        }
+        if self.address.len() < (usize::from(source) + 7) / 8 {
+            return Err(ParseError::ShortInput);
+        }
+        let (whole, first) = (usize::from(source / 8), source % 8);
+        if first == 0 {
+            return Ok((&self.address[..whole], None));
+        }
+        let last = first_bits(self.address[whole], first);
+        Ok((&self.address[..whole], Some(last)))
     }
 }

@@ -10,12 +10,18 @@ pub mod kept;
 pub mod known_options;
 pub mod laws;
 pub mod message;
+mod named_options;
+pub mod option_codes;
 pub mod passes;
 pub mod question;
 pub mod record;
 pub mod resource_record;
 pub mod rtype_text;
 pub mod section;
+pub mod sig0;
+pub mod transport_options;
+pub mod tsig;
+pub mod tsig_fields;
 
 pub use domain_header::{
     Class, Header, HeaderCounts, HeaderSection, Opcode, Rcode, ShortMessage, Ttl,
@@ -33,3 +39,7 @@ pub use record::{ParsedRecord, RecordHeader};
 pub use resource_record::Record;
 pub use rtype_text::{RtypeText, rtype_from_mnemonic, rtype_from_text, rtype_mnemonic};
 pub use section::{QuestionSection, RecordSection, Section};
+pub use sig0::{Sig0, sig0_of};
+pub use transport_options::{Padding, TcpKeepalive};
+pub use tsig::{TsigData, TsigError, tsig_of};
+pub use tsig_fields::Tsig;

@@ -147,6 +147,7 @@ pub struct RecordSection<'a> {
 
 impl<'a> RecordSection<'a> {
     ghost use Rattle.domain_message.specs.Sections.{records_message, records_offset, records_left, records_section, entries_left, Begins};
+    ghost use Rattle.domain_message.specs.LastRecords.{IsLastRecord, LacksRecord};
     ghost use Rattle.domain_message.specs.Sections.{IsLastSection, BeginsAfterRecords, MissesRecord};
 
     /// The records of a section that begins at the parser's position.
@@ -215,6 +216,28 @@ impl<'a> RecordSection<'a> {
             }
         }
         Ok(Some(RecordSection::at(parser, section)))
+    }
+
+    /// Returns the last of the remaining records, `None` if none remain. The error says why one of them is missing.
+    pub fn last_record(self) -> Result<Option<ParsedRecord<'a>>, ParseError>
+        ensures some { IfOk result (λ read. IfSome read (IsLastRecord self.entry)) }
+        ensures none { IfOk result
+            (λ read. IsNone read → entries_left (records_left self.entry) ≡ 0) }
+        ensures err { IfErr result (LacksRecord self.entry) }
+    {
+        let (mut parser, count) = self.left();
+        if count == 0 {
+            return Ok(None);
+        }
+        for _record in 0..count - 1 {
+            if let Err(e) = ParsedRecord::parse(&mut parser) {
+                return Err(e);
+            }
+        }
+        match ParsedRecord::parse(&mut parser) {
+            Ok(record) => Ok(Some(record)),
+            Err(e) => Err(e),
+        }
     }
 }
 

@@ -43,7 +43,7 @@ opt_not_pushed (Err e) c o s capacity head options heads same why = opt_refused 
 
 -- ---- and there is no room for it, then
 
-no_room_of : (c : Bool) (o : Opt) (t : List ℕ) (size ttl capacity : ℕ) → RecordExceeds Root 41 size ttl (OnlyOptions o) c t capacity → capacity < length t + 11 + length o.options
+pub no_room_of : (c : Bool) (o : Opt) (t : List ℕ) (size ttl capacity : ℕ) → RecordExceeds Root 41 size ttl (OnlyOptions o) c t capacity → capacity < length t + 11 + length o.options
 no_room_of c o t size ttl capacity (no_name e) = omega (arith, e.full, e.allowed.read.short)
 no_room_of c o t size ttl capacity (no_numbers named name full) = omega (arith, full, name.read.short)
 no_room_of c o t size ttl capacity (no_data named room name grown e) =
@@ -91,7 +91,7 @@ root_octets c t (x ∷ []) name =
     ap (λ o. o ∷ []) (one_octet t x (length t + 1) ends.0 ends.1 ends.2.stop ends.2.run ends.2.ends refl)
 root_octets c t (x ∷ (y ∷ s)) name = absurd (omega (arith, name.read.short))
 
-opt_is : (c : Bool) (o : Opt) (old new : State) → PushesOpt c o old new → new.octets ≡ old.octets ++ opt_record_octets o
+pub opt_is : (c : Bool) (o : Opt) (old new : State) → PushesRecord c Additional (opt_head o) (OnlyOptions o) old new → new.octets ≡ old.octets ++ opt_record_octets o
 opt_is c o old new pushed =
     let done = pushed.octets.allowed in
     let numbers = before_length 41 o.udp_payload_size (packed_opt_ttl o.rcode_ext o.version o.dnssec_ok) in
@@ -101,7 +101,7 @@ opt_is c o old new pushed =
     pushed.octets.all ∙ ap (λ x. old.octets ++ x) parts
 
 pub opt_appended : {A E : Type 0} (r : Result A E) (c : Bool) (o : Opt) (old new : State) → OnOk r (PushesOpt c o old new) → OnOk r (new.octets ≡ old.octets ++ opt_record_octets o)
-opt_appended (Ok x) c o old new pushed = opt_is c o old new pushed
+opt_appended (Ok x) c o old new pushed = opt_is c o (with_reserved 0 old) new pushed
 opt_appended (Err e) c o old new pushed = pushed
 
 -- ---- and how the target became what it is

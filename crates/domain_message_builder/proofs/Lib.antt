@@ -1,9 +1,11 @@
 pub mod Blank
+pub mod Blocks
 pub mod Composing
 pub mod Cutting
 pub mod Ending
 pub mod Finishing
 pub mod Marking
+pub mod Options
 pub mod Ordering
 pub mod Pointing
 pub mod Pushing

@@ -1,7 +1,10 @@
 -- What errors say, and what they write.
 use Rattle.std.specs.Prelude.{◌≡◌, ℕ, Bool, true, false, List, codes}
+use Rattle.domain_wire.specs.Refusals.{refusal, refusal_text}
 use Rattle.domain_message_builder.specs.declared.error.PushError.{PushError}
 use Rattle.domain_message_builder.specs.declared.error.PushError.TheVariants.{Append, Long, Count, Limit, Order}
+use Rattle.domain_message_builder.specs.declared.error.PushOptionError.{PushOptionError}
+use Rattle.domain_message_builder.specs.declared.error.PushOptionError.TheVariants.{Append as NoRoomForOption, Long as LongOptions, Form}
 use Rattle.domain_message_builder.specs.declared.error.StartError.{StartError}
 use Rattle.domain_message_builder.specs.declared.error.StartError.TheVariants.{Append as NoRoom, ShortLimit, NotEmpty}
 
@@ -18,6 +21,12 @@ push_error_text (Long _) = codes "record data too long"
 push_error_text Count = codes "too many entries in a section"
 push_error_text Limit = codes "message size exceeded"
 push_error_text Order = codes "a later section was begun"
+
+-- why an option wasn't pushed
+abbrev pub option_error_text : {E : Type 0} → PushOptionError E → List ℕ
+option_error_text (NoRoomForOption _) = codes "buffer size exceeded"
+option_error_text (LongOptions _) = codes "record data too long"
+option_error_text (Form why) = refusal_text (refusal why)
 
 -- The push was refused for lack of room: in the target, or up to the limit.
 abbrev pub is_for_room : {E : Type 0} → PushError E → Bool

@@ -11,9 +11,13 @@ pub mod Laws
 pub mod MarkedViews
 pub mod Marks
 pub mod Members
+pub mod NamedOptions
 pub mod Needs
 pub mod Opt
 pub mod OptViews
+pub mod OptionLaws
+pub mod Padding
+pub mod PaddingViews
 pub mod Pointers
 pub mod Pushes
 pub mod Reading

@@ -2,6 +2,7 @@
 ghost use Rattle.std.specs.Prelude.{Some};
 
 use domain_rdata::LongRecordData;
+use domain_wire::ParseError;
 use std::error::Error;
 use std::fmt;
 
@@ -79,3 +80,30 @@ impl<E> fmt::Display for PushError<E> {
 }
 
 impl<E: fmt::Debug + Drop> Error for PushError<E> {}
+
+/// Why an option wasn't pushed. The options are then as before.
+#[derive(Clone, Copy, Debug, Drop)]
+pub enum PushOptionError<E> {
+    /// The octets of options refused it.
+    Append(E),
+    /// The options would have more than 65,535 octets.
+    Long(LongRecordData),
+    /// The option can't say this: a reader would refuse it for this reason.
+    Form(ParseError),
+}
+
+impl<E> fmt::Display for PushOptionError<E> {
+    ghost use Rattle.domain_message_builder.specs.Errors.{option_error_text};
+
+    ghost output = { λ e. Some (option_error_text e) };
+
+    fn fmt<W: fmt::Write>(&self, f: &mut fmt::Formatter<W>) -> fmt::Result {
+        match self {
+            PushOptionError::Append(_) => write!(f, "buffer size exceeded"),
+            PushOptionError::Long(_) => write!(f, "record data too long"),
+            PushOptionError::Form(e) => write!(f, "{e}"),
+        }
+    }
+}
+
+impl<E: fmt::Debug + Drop> Error for PushOptionError<E> {}

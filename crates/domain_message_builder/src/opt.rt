@@ -1,7 +1,9 @@
 //! OPT records (RFC 6891).
-ghost use Rattle.std.specs.Prelude.{◌≡◌, ◌≤◌, ◌<◌, ◌+◌, ◌↔◌, length, IfOk, IfErr, IsErr, OnOk, OnErr};
+ghost use Rattle.std.specs.Prelude.{◌≡◌, ◌≤◌, ◌<◌, ◌+◌, ◌↔◌, ◌++◌, length, take, IfOk, IfErr, IsErr, OnOk, OnErr};
 ghost use Rattle.domain_message_builder.specs.Opt.{packed_opt_ttl, AppendsOption, OptionsAreFull};
 
+use crate::error::PushOptionError;
+use crate::padded_options::PaddedOptions;
 use domain_header::{Class, Ttl};
 use domain_message::Record;
 use domain_name::Name;
@@ -55,7 +57,10 @@ impl<Octs: Octets> OptBuilder<Octs> {
     ghost use Rattle.domain_message_builder.specs.Opt.{with_size, with_rcode_ext, with_version, with_dnssec_ok, opt_head};
     ghost use Rattle.domain_message_builder.specs.OptViews.{opt_of};
     ghost use Rattle.domain_message_builder.specs.Pushes.{headed};
-    ghost use Rattle.domain_message.specs.RecordParts.{data_of};
+    ghost use Rattle.domain_header.specs.Values.{class_number, ttl_seconds};
+    ghost use Rattle.domain_message.specs.RecordParts.{owner_of, class_of, ttl_of, data_of};
+    ghost use Rattle.domain_message_builder.specs.Padding.{padded_opt};
+    ghost use Rattle.domain_message_builder.specs.PaddingViews.{padded_octets};
     ghost use Rattle.domain_name.specs.Names.{name_labels};
     ghost use Rattle.domain_rdata.specs.Unknown.{data_octets, data_type};
 
@@ -99,35 +104,88 @@ impl<Octs: Octets> OptBuilder<Octs> {
         ensures head { headed name_labels data_type result ≡ opt_head (opt_of self.now) }
         ensures options { data_octets (data_of result) ≡ (opt_of self.now).options }
     {
-        let ttl = flags_ttl(self.rcode_ext, self.version, self.dnssec_ok);
         let Ok(options) = UnknownRecordData::from_octets(Rtype::from_int(41), &self.options) else {
             unreachable!();
         };
+        self.record_with(options)
+    }
+
+    /// The record with this many octets of padding after its options.
+    pub(crate) fn padded_record(
+        &self,
+        padding: u16,
+    ) -> Record<Name<&'static [u8]>, PaddedOptions<'_>>
+        requires { length (opt_of self.now).options + 4 + padding ≤ 65535 }
+        ensures head { headed name_labels (λ data_octets. 41) result ≡
+            opt_head (padded_opt padding (opt_of self.now)) }
+        ensures options { padded_octets (data_of result) ≡
+            (padded_opt padding (opt_of self.now)).options }
+    {
+        self.record_with(PaddedOptions::new(self.options.as_slice(), padding))
+    }
+
+    /// The record with this data in place of the options.
+    fn record_with<D>(&self, rdata: D) -> Record<Name<&'static [u8]>, D>
+        ensures owner { name_labels (owner_of result) ≡ (opt_head (opt_of self.now)).owner }
+        ensures class { class_number (class_of result) ≡ (opt_head (opt_of self.now)).class }
+        ensures ttl { ttl_seconds (ttl_of result) ≡ (opt_head (opt_of self.now)).ttl }
+        ensures rdata { data_of result ≡ rdata }
+    {
+        let ttl = flags_ttl(self.rcode_ext, self.version, self.dnssec_ok);
         let class = Class::from_int(self.udp_payload_size);
-        Record::new(Name::root_ref(), class, Ttl::from_secs(ttl), options)
+        Record::new(Name::root_ref(), class, Ttl::from_secs(ttl), rdata)
     }
 }
 
-/// Appends the parts of an option, or nothing.
+/// Appends octets one after the other, up to where there is no room.
+fn append_four<Octs: OctetsBuilder>(
+    options: &mut Octs,
+    head: &[u8],
+    first: &[u8],
+    second: &[u8],
+    third: &[u8],
+) -> Result<(), Octs::AppendError>
+    ensures ok { OnOk result (Octs.octets options.new ≡
+        Octs.octets options.old ++ (head.now ++ (first.now ++ (second.now ++ third.now)))) }
+    ensures kept { OnErr result
+        (take (length (Octs.octets options.old)) (Octs.octets options.new) ≡
+        Octs.octets options.old) }
+    ensures full { OnErr result (Octs.capacity options.old < length (Octs.octets options.old)
+        + (length head.now + length first.now + length second.now + length third.now)) }
+    ensures capacity { Octs.capacity options.old ≤ Octs.capacity options.new }
+{
+    if let Err(e) = options.append_slice(head) {
+        return Err(e);
+    }
+    if let Err(e) = options.append_slice(first) {
+        return Err(e);
+    }
+    if let Err(e) = options.append_slice(second) {
+        return Err(e);
+    }
+    options.append_slice(third)
+}
+
+/// Appends an option whose data is in three parts, or nothing.
 fn append_option<Octs: OctetsBuilder>(
     options: &mut Octs,
     code: u16,
-    octets: &[u8],
+    first: &[u8],
+    second: &[u8],
+    third: &[u8],
 ) -> Result<(), Octs::AppendError>
-    requires { length octets.now ≤ 65535 }
-    ensures ok { OnOk result (AppendsOption Octs.octets code octets.now options.old options.new) }
+    requires { length first.now + length second.now + length third.now ≤ 65535 }
+    ensures ok { OnOk result (AppendsOption Octs.octets code
+        (first.now ++ (second.now ++ third.now)) options.old options.new) }
     ensures unchanged { OnErr result (Octs.octets options.new ≡ Octs.octets options.old) }
-    ensures full { OnErr result
-        (OptionsAreFull Octs.capacity Octs.octets octets.now options.old) }
+    ensures full { OnErr result (OptionsAreFull Octs.capacity Octs.octets
+        (first.now ++ (second.now ++ third.now)) options.old) }
     ensures capacity { Octs.capacity options.old ≤ Octs.capacity options.new }
 {
     let start = options.as_slice().len();
     let [a, b] = code.to_be_bytes();
-    let [c, d] = (octets.len() as u16).to_be_bytes();
-    if let Err(e) = options.append_slice(&[a, b, c, d]) {
-        return Err(e);
-    }
-    if let Err(e) = options.append_slice(octets) {
+    let [c, d] = ((first.len() + second.len() + third.len()) as u16).to_be_bytes();
+    if let Err(e) = append_four(options, &[a, b, c, d], first, second, third) {
         options.truncate(start);
         return Err(e);
     }
@@ -135,6 +193,7 @@ fn append_option<Octs: OctetsBuilder>(
 }
 
 impl<Octs: OctetsBuilder> OptBuilder<Octs> {
+    ghost use Rattle.domain_message_builder.specs.NamedOptions.{PartsNotPushed};
     ghost use Rattle.domain_message_builder.specs.Opt.{with_option};
     ghost use Rattle.domain_message_builder.specs.OptViews.{opt_of, options_room, OptionNotAdded};
 
@@ -156,9 +215,37 @@ impl<Octs: OctetsBuilder> OptBuilder<Octs> {
         if octets.len() > 65535 || len + octets.len() > 65531 {
             return Err(ComposeRdataError::Long(LongRecordData));
         }
-        match append_option(&mut self.options, code, octets) {
+        match append_option(&mut self.options, code, &[], &[], octets) {
             Ok(()) => Ok(()),
             Err(e) => Err(ComposeRdataError::Append(e)),
+        }
+    }
+
+    /// Pushes an option of this code whose data is in three parts, of which two are short, or nothing.
+    pub(crate) fn push_parts(
+        &mut self,
+        code: u16,
+        first: &[u8],
+        second: &[u8],
+        third: &[u8],
+    ) -> Result<(), PushOptionError<Octs::AppendError>>
+        requires first { length first.now ≤ 255 }
+        requires second { length second.now ≤ 255 }
+        ensures ok { OnOk result (opt_of self.new ≡
+            with_option code (first.now ++ (second.now ++ third.now)) (opt_of self.old)) }
+        ensures unchanged { OnErr result (opt_of self.new ≡ opt_of self.old) }
+        ensures why { IfErr result
+            (PartsNotPushed (first.now ++ (second.now ++ third.now)) self.old) }
+        ensures capacity { options_room self.old ≤ options_room self.new }
+    {
+        let len = self.options.as_slice().len();
+        let short = first.len() + second.len();
+        if third.len() > 65535 || len + short + third.len() > 65531 {
+            return Err(PushOptionError::Long(LongRecordData));
+        }
+        match append_option(&mut self.options, code, first, second, third) {
+            Ok(()) => Ok(()),
+            Err(e) => Err(PushOptionError::Append(e)),
         }
     }
 }

@@ -65,9 +65,9 @@ pub mod message {
 pub mod message_builder {
     pub use domain::base::message_builder::{
         AdditionalBuilder, AdditionalSection, AnswerBuilder, AnswerSection, AuthorityBuilder,
-        AuthoritySection, MarkedBuilder, MessageBuilder, OptBuilder, PushError, QuestionBuilder,
-        RecordBuilder, RecordSection, SectionError, StartError, builder_laws,
-        pushed_data_reads_back,
+        AuthoritySection, MarkedBuilder, MessageBuilder, OptBuilder, PushError, PushOptionError,
+        QuestionBuilder, RecordBuilder, RecordSection, SectionError, StartError, builder_laws,
+        option_laws, pushed_data_reads_back,
     };
 }
 
@@ -80,8 +80,12 @@ pub mod stream {
 pub mod opt {
     pub use domain::base::opt::{
         ClientSubnet, Cookie, EdnsOption, ExtendedError, Nsid, OptData, OptError, OptIter,
-        OptRecord, opt_of,
+        OptRecord, Padding, TcpKeepalive, opt_of,
     };
+}
+
+pub mod tsig {
+    pub use domain::base::tsig::{Sig0, Tsig, TsigData, TsigError, sig0_of, tsig_of};
 }
 
 pub mod question {

@@ -1,5 +1,5 @@
 //! The response that follows a chain.
-ghost use Rattle.std.specs.Prelude.{◌≡◌, map, fold, IfOk, OnOk};
+ghost use Rattle.std.specs.Prelude.{◌≡◌, map, fold, IfOk, OnOk, OnErr};
 ghost use Rattle.domain_name.specs.Names.{name_labels};
 ghost use Rattle.domain_zone.specs.Kept.{zone_view};
 ghost use Rattle.domain_zone_answer.specs.Sections.{AreSections};
@@ -87,12 +87,17 @@ fn is_new(answers: &[AnswerRrset<'_>], set: &AnswerRrset<'_>) -> bool
 }
 
 /// Pushes an RRset, unless one of its owner and its type is there (RFC 2181, 5).
+///
+/// # Errors
+///
+/// `AllocError` where an allocation failed. `answers` is then unchanged.
 pub fn push_new<'a>(
     answers: &mut Vec<AnswerRrset<'a>>,
     set: AnswerRrset<'a>,
 ) -> Result<(), AllocError>
-    ensures { OnOk result (answer_views answers.new.items
+    ensures pushed { OnOk result (answer_views answers.new.items
         ≡ with_rrset (answer_views answers.old.items) (answer_view set.entry)) }
+    ensures unchanged { OnErr result (answers.new.items ≡ answers.old.items) }
 {
     if !is_new(answers.as_slice(), &set) {
         return Ok(());

@@ -1,6 +1,7 @@
 //! OPT records that are read: octets as the standards draw them (RFC 6891, 6.1; RFC 7871, 6; RFC 7873, 4; RFC 8914,
 //! 2).
 
+use crate::messages::joined;
 use domain_header::Rcode;
 use domain_message::{Message, OptError, OptIter, opt_of};
 use domain_wire::ParseError;
@@ -19,15 +20,6 @@ const OPTIONS: [u8; 31] = [
     0, 10, 0, 8, 0x24, 0x64, 0xc4, 0xab, 0xcf, 0x10, 0xc9, 0x57, //
     0, 15, 0, 4, 0, 18, b'n', b'o',
 ];
-
-/// Octets one after the other, after those of a vector.
-fn joined(rt: &impl Abort, octets: Vec<u8>, parts: &[&[u8]]) -> Vec<u8> {
-    let mut octets = octets;
-    for part in parts {
-        octets.extend_from_slice(part).expect(rt, "memory");
-    }
-    octets
-}
 
 /// The next option has this code and these octets.
 fn gives(rt: &impl Abort, options: &mut OptIter<'_>, code: u16, data: &[u8]) {

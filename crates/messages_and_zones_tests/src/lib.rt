@@ -24,6 +24,8 @@ mod names;
 #[cfg(test)]
 mod numbers;
 #[cfg(test)]
+mod options;
+#[cfg(test)]
 mod record_types;
 #[cfg(test)]
 mod records;
@@ -31,6 +33,8 @@ mod records;
 mod refused;
 #[cfg(test)]
 mod rrsets;
+#[cfg(test)]
+mod signed;
 #[cfg(test)]
 mod zone_faults;
 #[cfg(test)]

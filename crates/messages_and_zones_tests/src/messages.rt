@@ -25,6 +25,15 @@ pub const OPT: usize = 11;
 
 pub type Address = Record<Name<&'static [u8]>, A>;
 
+/// Octets one after the other, after those of a vector.
+pub fn joined(rt: &impl Abort, octets: Vec<u8>, parts: &[&[u8]]) -> Vec<u8> {
+    let mut octets = octets;
+    for part in parts {
+        octets.extend_from_slice(part).expect(rt, "memory");
+    }
+    octets
+}
+
 /// The question for an address of the root.
 pub fn question() -> Question<Name<&'static [u8]>> {
     Question::new(Name::root_ref(), Rtype::from_int(1), Class::from_int(1))

@@ -9,4 +9,4 @@ pub returns-in-Err-parse-clause-other : goal.returns-in-Err-parse-clause-other
 returns-in-Err-parse-clause-other c = λ no e f next. theirs_missing next c.in-Err-parse.ensures.err
 
 pub returns-clause-other : goal.returns-clause-other
-returns-clause-other c = λ no e f next. not_same next c.in-Ok.ensures.ok c.in-Ok-parse.ensures.ok (sym c.eq.ensures ∙ no)
+returns-clause-other c = λ no e f next. not_same next c.in-Ok.ensures.ok c.in-Ok-parse.ensures.ok (sym c.are_alike.ensures ∙ no)

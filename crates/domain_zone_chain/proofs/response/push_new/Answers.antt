@@ -4,8 +4,8 @@ use Rattle.domain_zone_chain.specs.Views.{answer_view, answer_views}
 use Rattle.domain_zone_chain.proofs.Repeating.{adds_new, adds_none}
 use Rattle.domain_zone_chain.proofs.response.push_new.Goals as goal
 
-pub returns-then-not-is_new : goal.returns-then-not-is_new
-returns-then-not-is_new c = adds_none _ _ _ c.is_new.result (ap answer_views c.as_slice.ensures.value) c.is_new.ensures c.if-not-is_new.true
+pub returns-then-not-is_new-clause-pushed : goal.returns-then-not-is_new-clause-pushed
+returns-then-not-is_new-clause-pushed c = adds_none _ _ _ c.is_new.result (ap answer_views c.as_slice.ensures.value) c.is_new.ensures c.if-not-is_new.true
 
-pub returns : goal.returns
-returns c = adds_new _ _ _ _ c.is_new.result (ap answer_views c.as_slice.ensures.value) c.is_new.ensures c.if-not-is_new.false (ap answer_views c.in_ok-push.ensures.items ∙ map-append answer_view _ _)
+pub returns-clause-pushed : goal.returns-clause-pushed
+returns-clause-pushed c = adds_new _ _ _ _ c.is_new.result (ap answer_views c.as_slice.ensures.value) c.is_new.ensures c.if-not-is_new.false (ap answer_views c.in_ok-push.ensures.items ∙ map-append answer_view _ _)

@@ -8,4 +8,4 @@ use Rattle.domain_zone_signed.proofs.denials.push_one.Goals as goal
 pub returns : goal.returns
 returns c =
     let before = answer_views c.args.sets.now.items in
-    c.in_ok-push_new.ensures ∙ (ap (with_rrset before) c.new.ensures ∙ ap (λ s. fold with_rrset before (set_list s)) (sym c.in-Some.is))
+    c.in_ok-push_new.ensures.pushed ∙ (ap (with_rrset before) c.new.ensures ∙ ap (λ s. fold with_rrset before (set_list s)) (sym c.in-Some.is))

@@ -1,7 +1,0 @@
-//! A zone in memory that a caller outside Rattle keeps for it.
-#![tactic(auto)]
-
-mod loose;
-mod slot;
-
-pub use slot::ZoneSlot;

@@ -1,0 +1,10 @@
+pub mod Names
+pub mod Unknown
+pub mod Starting
+pub mod Appending
+pub mod Members
+pub mod Ttls
+pub mod Same
+pub mod Alike
+pub mod Reading
+pub mod Loading

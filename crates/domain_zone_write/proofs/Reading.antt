@@ -1,0 +1,155 @@
+-- The entries of the text of a zone are its records.
+use Rattle.std.proofs.Common.{◌≡◌, ◌∙◌, ℕ, List, [], ◌∷◌, ◌++◌, length, map, Some, refl, sym, ap, subst, inl, inr, arith}
+use Rattle.std.specs.List.{AllByRecursion, AllZip, Contains}
+use Rattle.domain_descriptor.proofs.Exact.{data_or_fault}
+use Rattle.domain_descriptor.specs.Table.{known_fields}
+use Rattle.domain_label.proofs.WireLaws.{labels_in_wire}
+use Rattle.domain_label.specs.Wire.{wire, Root, IsAbsoluteName}
+use Rattle.domain_rdata_text.proofs.Holding.{name_val}
+use Rattle.domain_rdata_text.proofs.Plainly.{values_once}
+use Rattle.domain_rdata_text.specs.Laws.{AreOctets}
+use Rattle.domain_rdata_text.specs.Values.{Val, vals_octets, ValuesAt}
+use Rattle.domain_zone.specs.Building.{Inserted}
+use Rattle.domain_zone_load.specs.Loads.{HasEntries, records_of}
+use Rattle.domain_zone_load.specs.Takings.{records_of_entry}
+use Rattle.domain_zone_text.proofs.Outcomes.{one_entry}
+use Rattle.domain_zone_text.specs.Lines.{Written, IsRecord, ReadsRecords, after_record, record_said}
+use Rattle.domain_zone_text.specs.Meanings.{Setting}
+use Rattle.domain_zone_text.specs.Meanings.Said.{nothing}
+use Rattle.domain_zone_text.specs.Reading.{EntrySaid, ReadsEntry}
+use Rattle.domain_zone_text.specs.Reading.EntrySaid.{blank}
+use Rattle.domain_zone_text.specs.Readers.{ReadsNext}
+use Rattle.domain_zone_write.proofs.Members.{first_in, inserted_by, later_in}
+use Rattle.domain_zone_write.proofs.Names.{name_there}
+use Rattle.domain_zone_write.specs.Laws.{IsReadable}
+use Rattle.domain_zone_write.specs.Texts.{HoldsData, IsLineOf}
+
+-- ---- one record
+record Held (r : Inserted) (class : ℕ) (w : Written) : Type 0 where
+  end : ℕ
+  at : ValuesAt (known_fields w.rtype w.class) r.octets 0 w.values end
+  octets : vals_octets w.values ≡ r.octets
+
+held : (class : ℕ) (r : Inserted) (w : Written) → IsReadable class r → IsLineOf class r w → HoldsData r.rtype class r.octets w.values → Held r class w
+held class r w ok line (inl (e, at)) = record {
+  end = e;
+  at = subst (λ (t : ℕ). ValuesAt (known_fields t w.class) r.octets 0 w.values e) (sym line.rtype_is)
+      (subst (λ (c : ℕ). ValuesAt (known_fields r.rtype c) r.octets 0 w.values e) (sym line.class_is) at);
+  octets =
+      let it = ok.plain.1 in
+      ap (λ (x : List Val). vals_octets x) (values_once (known_fields r.rtype class) r.octets 0 w.values it.0 e it.1 at it.2) ∙ it.3;
+}
+held class r w ok line (inr ((why, lacks), is)) = absurd (data_or_fault (known_fields r.rtype class) r.octets 0 why ok.plain.0 lacks)
+
+pub is_record : (class : ℕ) (r : Inserted) (w : Written) → IsReadable class r → IsAbsoluteName r.owner → IsLineOf class r w → IsRecord w
+is_record class r w ok name line =
+    let it = held class r w ok line line.holds in
+    let whole : IsAbsoluteName (w.owner ++ Root) = subst IsAbsoluteName (sym line.owner_is) name in
+    let low : AreOctets (wire (w.owner ++ Root)) = subst (λ (x : List (List ℕ)). AreOctets (wire x)) (sym line.owner_is) ok.owner_octets in
+    let owner = name_val (wire (w.owner ++ Root)) 0 w.owner low (name_there (w.owner ++ Root) whole) in
+    record {
+      is_owner = owner.0;
+      owner_octets = owner.1;
+      small_ttl = omega (arith, line.ttl_is, ok.small_ttl);
+      small_class = omega (arith, line.class_is, ok.small_class);
+      small_rtype = omega (arith, line.rtype_is, ok.small_rtype);
+      message = r.octets;
+      octets = ok.octets;
+      begin = 0;
+      end = it.end;
+      inside = omega arith;
+      holds = it.at;
+      short = omega (arith, ap (λ (x : List ℕ). length x) it.octets, ok.short);
+    }
+
+record_back : (class : ℕ) (r : Inserted) (w : Written) → IsReadable class r → IsLineOf class r w → records_of_entry (record_said w) ≡ r ∷ []
+record_back class r w ok line =
+    let it = held class r w ok line line.holds in
+    ap (λ (o : List (List ℕ)). inserted_by o w.rtype w.ttl (vals_octets w.values) ∷ []) (labels_in_wire (w.owner ++ Root) ∙ line.owner_is)
+    ∙ (ap (λ (n : ℕ). inserted_by r.owner n w.ttl (vals_octets w.values) ∷ []) line.rtype_is
+    ∙ (ap (λ (n : ℕ). inserted_by r.owner r.rtype n (vals_octets w.values) ∷ []) line.ttl_is
+    ∙ ap (λ (os : List ℕ). inserted_by r.owner r.rtype r.ttl os ∷ []) it.octets))
+
+-- ---- several
+pub record IsSayable (class : ℕ) (r : Inserted) : Type 0 where
+  pub readable : IsReadable class r
+  pub name : IsAbsoluteName r.owner
+
+pub are_records : (class : ℕ) (rs : List Inserted) (ws : List Written) → AllByRecursion (IsSayable class) rs → AllZip (IsLineOf class) rs ws → AllByRecursion IsRecord ws
+are_records class [] [] ok lines = tt
+are_records class [] (w ∷ ws) ok lines = absurd lines
+are_records class (r ∷ rs) [] ok lines = absurd lines
+are_records class (r ∷ rs) (w ∷ ws) ok lines = (is_record class r w ok.0.readable ok.0.name lines.0, are_records class rs ws ok.1 lines.1)
+
+pub records_back : (class : ℕ) (rs : List Inserted) (ws : List Written) → AllByRecursion (IsSayable class) rs → AllZip (IsLineOf class) rs ws → records_of (map record_said ws) ≡ rs
+records_back class [] [] ok lines = refl
+records_back class [] (w ∷ ws) ok lines = absurd lines
+records_back class (r ∷ rs) [] ok lines = absurd lines
+records_back class (r ∷ rs) (w ∷ ws) ok lines =
+    ap (λ (x : List Inserted). x ++ records_of (map record_said ws)) (record_back class r w ok.0.readable lines.0)
+    ∙ ap (λ (x : List Inserted). r ∷ x) (records_back class rs ws ok.1 lines.1)
+
+-- the record of a line among others
+pub line_among : (class : ℕ) (rs : List Inserted) (us vs : List Written) (v : Written) → AllZip (IsLineOf class) rs (us ++ v ∷ vs) → (r : Inserted) × Contains rs r × IsLineOf class r v
+line_among class [] [] vs v lines = absurd lines
+line_among class [] (u ∷ us) vs v lines = absurd lines
+line_among class (r ∷ rs) [] vs v lines = (r, first_in r rs, lines.0)
+line_among class (r ∷ rs) (u ∷ us) vs v lines =
+    let it = line_among class rs us vs v lines.1 in
+    (it.0, later_in r it.0 rs it.1, it.2)
+
+-- ---- the entries of the text
+pub next_reads : (s : Setting) (text : List ℕ) (e : EntrySaid) (after : List ℕ) (t : Setting) → ReadsNext s text (Some e) after t → ReadsEntry s text e after t
+next_reads s [] e after t next = absurd next
+next_reads s (c ∷ cs) e after t next = next
+
+-- an empty text has a blank entry
+pub reads_blank : (s : Setting) → ReadsEntry s [] blank [] s
+reads_blank s = record {
+  octets = [];
+  means = nothing;
+  os = [];
+  entry = refl;
+  words = record { words = []; are = refl; say = refl };
+  holds = refl;
+  is = refl;
+  leaves = refl;
+}
+
+-- Entries that a text starts with are some of its records, and the others are those of the rest.
+pub record Parted (ws : List Written) (es : List EntrySaid) (rest : List ℕ) (t : Setting) : Type 0 where
+  pub before : List Written
+  pub after : List Written
+  pub parts : ws ≡ before ++ after
+  pub entries : es ≡ map record_said before
+  pub reads : ReadsRecords t rest after
+
+pub parted : (s t : Setting) (text rest : List ℕ) (es : List EntrySaid) (ws : List Written) → HasEntries s text es rest t → ReadsRecords s text ws → Parted ws es rest t
+parted s t text rest [] ws has reads = record {
+  before = [];
+  after = ws;
+  parts = refl;
+  entries = refl;
+  reads = subst (λ (x : List ℕ). ReadsRecords t x ws) (sym has.0) (subst (λ (x : Setting). ReadsRecords x text ws) (sym has.1) reads);
+}
+parted s t text rest (e ∷ es) [] has reads =
+    absurd (subst (λ (x : List ℕ). ReadsNext s x (Some e) has.0 has.1) reads has.2)
+parted s t text rest (e ∷ es) (w ∷ ws) has reads =
+    let same = one_entry s text e (record_said w) has.0 reads.0 has.1 (after_record s w) (next_reads s text e has.0 has.1 has.2) reads.1 in
+    let others : ReadsRecords has.1 has.0 ws = subst (λ (x : List ℕ). ReadsRecords has.1 x ws) (sym same.1) (subst (λ (x : Setting). ReadsRecords x reads.0 ws) (sym same.2) reads.2) in
+    let it = parted has.1 t has.0 rest es ws has.3 others in
+    record {
+      before = w ∷ it.before;
+      after = it.after;
+      parts = ap (λ (x : List Written). w ∷ x) it.parts;
+      entries = ap (λ (x : EntrySaid). x ∷ es) same.0 ∙ ap (λ (x : List EntrySaid). record_said w ∷ x) it.entries;
+      reads = it.reads;
+    }
+
+blank_no_record : (w : Written) → record_said w ≡ blank → ⊥
+blank_no_record w e = cc
+
+-- At the end there are no others.
+pub none_left : (t : Setting) (after : List Written) → ReadsRecords t [] after → after ≡ []
+none_left t [] reads = refl
+none_left t (w ∷ ws) reads = absurd (blank_no_record w (one_entry t [] (record_said w) blank reads.0 [] (after_record t w) t reads.1 (reads_blank t)).0)
