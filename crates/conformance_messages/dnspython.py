@@ -38,7 +38,8 @@ KNOWN = (1, 2, 5, 6, 12, 15, 28, 33, 39)
 TYPED = (13, 35, 43, 44, 46, 47, 48, 52, 257)
 ANY = (1, 2, 5, 6, 12, 15, 16, 17, 18, 21, 26, 28, 33, 36, 39, 64, 65) + TYPED
 # Types that dnspython doesn't know, and one with the same fields that it knows.
-SAME_FIELDS = {3: NS, 4: NS, 7: NS, 8: NS, 9: NS, 14: RP, 24: RRSIG, 25: DNSKEY, TALINK: RP, 258: TXT}
+SAME_FIELDS = {3: NS, 4: NS, 7: NS, 8: NS, 9: NS, 14: RP, 24: RRSIG, 25: DNSKEY, 56: TXT, 57: DNSKEY, TALINK: RP,
+               67: OPENPGPKEY, 68: OPENPGPKEY, 258: TXT, 261: TXT, 262: TXT, 263: TXT}
 # Types of digests, and the place of the octet that tells which digest it is.
 OF_DIGESTS = {DS: 3, CDS: 3, ZONEMD: 5, DLV: 3}
 # Types whose data dnspython reads by its fields in class IN alone.
