@@ -465,14 +465,15 @@ SIGNATURE_FAULTS = [
 # RFC 1035, 3.3 and 3.4. 1183 (RP, AFSDB, X25, ISDN, RT). 2535 (SIG, KEY). 2163 (PX). 1712 (GPOS). 3596 (AAAA). 2782
 # (SRV). 3403 (NAPTR). 2230 (KX). 4398 (CERT). 6672 (DNAME). 4034 (DS, RRSIG, NSEC, DNSKEY). 4255 (SSHFP). 4701 (DHCID).
 # 5155 (NSEC3, NSEC3PARAM). 6698 (TLSA). 8162 (SMIMEA). 7344 (CDS, CDNSKEY). 7929 (OPENPGPKEY). 7477 (CSYNC). 8976
-# (ZONEMD). 7208 (SPF). 6742 (L32, LP). 7553 (URI). 8659 (CAA). 4431 (DLV). TALINK and AVC are of IANA's registry.
+# (ZONEMD). 7208 (SPF). 6742 (L32, LP). 7553 (URI). 8659 (CAA). 4431 (DLV). 9886 (HHIT, BRID). 9606
+# (RESINFO). NINFO, RKEY, TALINK, AVC, WALLET and CLA are of IANA's registry.
 FIELDS = {
     1: "a", 2: "n", 3: "n", 4: "n", 5: "n", 6: "nn4LLLL", 7: "n", 8: "n", 9: "n", 12: "n", 13: "ss", 14: "nn",
     15: "2n", 16: "S", 17: "nn", 18: "2n", 19: "s", 20: "so", 21: "2n", 24: "R11LTT2nb", 25: "211b", 26: "2nn",
     27: "sss", 28: "A", 33: "222n", 35: "22sssn", 36: "2n", 37: "221b", 39: "n", 43: "211h", 44: "11h",
-    46: "R11LTT2nb", 47: "nB", 48: "211b", 49: "b", 50: "112HXO", 51: "112H", 52: "111h", 53: "111h", 58: "nn",
-    59: "211h", 60: "211b", 61: "b", 62: "42O", 63: "411h", 99: "S", 105: "2a", 107: "2n", 256: "22q", 257: "1tq",
-    258: "S", 32769: "211h",
+    46: "R11LTT2nb", 47: "nB", 48: "211b", 49: "b", 50: "112HXO", 51: "112H", 52: "111h", 53: "111h", 56: "S",
+    57: "211b", 58: "nn", 59: "211h", 60: "211b", 61: "b", 62: "42O", 63: "411h", 67: "b", 68: "b", 99: "S",
+    105: "2a", 107: "2n", 256: "22q", 257: "1tq", 258: "S", 261: "S", 262: "S", 263: "S", 32769: "211h",
 }
 # Types whose data is shown after \# alone. RFC 1035 (NULL, WKS), 1706 (NSAP, NSAP-PTR), 1876 (LOC). 2535
 # (NXT), 3123 (APL), 4025 (IPSECKEY), 8005 (HIP), 9460 (SVCB, HTTPS), 6742 (NID, L64), 7043 (EUI48, EUI64). 2930 (TKEY),

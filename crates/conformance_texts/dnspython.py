@@ -39,10 +39,13 @@ A, NS, SOA, HINFO, TXT, RP, X25, ISDN, SIG, GPOS, AAAA, NAPTR, CERT = 1, 2, 6, 1
 DS, RRSIG, DNSKEY, CDS, ZONEMD, SPF, URI, CAA, AVC, DLV = 43, 46, 48, 59, 63, 99, 256, 257, 258, 32769
 NXT, NSEC, NSEC3, OPENPGPKEY, CSYNC, SVCB, HTTPS, TSIG = 30, 47, 50, 61, 62, 64, 65, 250
 # Types that dnspython doesn't know, and one with the same fields that it knows (RFC 1035, 3.3; RFC 2535, 3 and 4).
-SAME_FIELDS = {3: NS, 4: NS, 7: NS, 8: NS, 9: NS, 14: RP, SIG: RRSIG, 25: DNSKEY, 58: RP}
+SAME_FIELDS = {3: NS, 4: NS, 7: NS, 8: NS, 9: NS, 14: RP, SIG: RRSIG, 25: DNSKEY, 57: DNSKEY, 58: RP,
+               67: OPENPGPKEY, 68: OPENPGPKEY, 261: TXT, 262: TXT, 263: TXT}
 # Types of character strings alone of which dnspython asks more, and how many these are (RFC 1035, 3.3.2; RFC 1183, 3;
 # RFC 1712).
 OF_STRINGS = {HINFO: (2,), X25: (1,), ISDN: (1, 2), GPOS: (3,)}
+# Types of one character string or more, as TXT.
+OF_TEXT = (TXT, 56, SPF, AVC, 261, 262, 263)
 # The strings of other types that dnspython takes for UTF-8, as it names them.
 OF_UTF8 = {NAPTR: ("flags", "service", "regexp"), URI: ("target",), CAA: ("value",)}
 # Types with a digest of which dnspython checks the length, by type, scheme and algorithm: which words these are, and
@@ -51,7 +54,7 @@ CHECKED, UNCHECKED = {DS: ((2, 3),), CDS: ((2, 3),), DLV: ((2, 3),), ZONEMD: ((1
 # Types with bitmaps of types.
 OF_BITMAPS = (NSEC, NSEC3, CSYNC)
 # Types whose data is octets here, of which dnspython reads the fields.
-OF_OCTETS = (11, 23, 29, 41, 42, 45, 55, 56, 260)
+OF_OCTETS = (11, 23, 29, 41, 42, 45, 55, 260)
 # The mnemonics that dnspython doesn't have.
 OTHER_TYPES = {name: number for number, name in data_rows.TYPES.items() if number not in iter(dns.rdatatype.RdataType)}
 OTHER_TYPES.update({"*": 255, "NSAP-PTR": 23})
@@ -153,7 +156,7 @@ class Data(NamedTuple):
             rdata = dns.rdata.from_wire(self.rclass, self.rtype, self.message, self.begin, size)
             rdata = rdata.to_generic() if self.is_generic else rdata
             # The text of OPENPGPKEY has no chunks, and takes no size of them.
-            text = (rdata.to_text() if self.rtype == OPENPGPKEY else rdata.to_text(chunksize=0)).encode("ascii")
+            text = (rdata.to_text() if self.rtype in (OPENPGPKEY, 67, 68) else rdata.to_text(chunksize=0)).encode("ascii")
         except Exception:  # of many kinds
             return None
         for change in self.back:
@@ -364,9 +367,9 @@ def service_mode_in_text(text):
 TEXT_TURNS = (
     ("ends of lines and carriage returns are white space", "RFC 1035, 5.1", spelled),
     ("a text is octets and not characters in UTF-8", "RFC 1035, 3.3", numbered),
-    ("MD, MF, MB, MG, MR, MINFO, SIG, KEY and TALINK are known", "RFC 1035, 3.3; RFC 2535, 3 and 4", said_as),
+    ("types that dnspython doesn't know are known", "RFC 1035, 3.3; RFC 2535, 3 and 4; RFC 9606; RFC 9886", said_as),
     ("NAPTR is of every class", "RFC 3403, 4.1", in_internet),
-    ("WKS, NSAP-PTR, LOC, OPT, APL, IPSECKEY, HIP, NINFO, AMTRELAY and A in CHAOS are octets", "RFC 3597, 5",
+    ("WKS, NSAP-PTR, LOC, OPT, APL, IPSECKEY, HIP, AMTRELAY and A in CHAOS are octets", "RFC 3597, 5",
      as_octets),
     ("numbers of addresses and seconds may have zeros before them", "RFC 1035, 3.4.1; RFC 4034, 3.2", without_zeros),
     ("mnemonics of types that dnspython doesn't have", "RFC 1035, 3.2.3; RFC 6895, 3.1", types_by_number),
@@ -588,6 +591,7 @@ def refusal_of(row, answer):
 
 def has_no_string(row):
     """Whether dnspython makes no octet of it, where words have a space between."""
+    row = said_as(row) or row
     return ((spelled(row) if isinstance(row, Text) else None) or row).answer() == b""
 
 
@@ -691,8 +695,8 @@ ONE_SIDED = (
      lambda it: it.reason == it.due == "Base64" and not is_canonical(it.rest)),
     ("data has at most 65,535 octets", "RFC 1035, 3.2.1",
      lambda it: it.reason == "LongData" and len(it.row.answer()) > 65535),
-    ("there is one string or more", "RFC 1035, 3.3.14; RFC 7208, 3.1",
-     lambda it: it.reason in ("NotData", "ShortInput") and it.row.rtype in (TXT, SPF, AVC) and has_no_string(it.row)),
+    ("there is one string or more", "RFC 1035, 3.3.14; RFC 7208, 3.1; RFC 9606, 4",
+     lambda it: it.reason in ("NotData", "ShortInput") and it.row.rtype in OF_TEXT and has_no_string(it.row)),
     ("there is one block of a bitmap or more", "RFC 4034, 4.1.2",
      lambda it: it.reason in ("NotData", "ShortInput") and has_no_bitmap(it.row)
      or it.reason == "MissingWord" and it.row.rtype == NSEC),

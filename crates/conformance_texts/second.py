@@ -79,6 +79,8 @@ FIELDS = {
     "TLSA": "Number8 Number8 Number8 Base16",  # RFC 6698, 2.1
     "SMIMEA": "Number8 Number8 Number8 Base16",  # RFC 8162, 2
     "HIP": "Octets",  # RFC 8005, 5
+    "NINFO": "CharStrings",  # the registry of IANA: as TXT
+    "RKEY": "Number16 Number8 Number8 Base64",  # the registry of IANA: as KEY
     "TALINK": "Name Name",  # draft-wijngaards-dnsop-trust-history, 2
     "CDS": "Number16 Number8 Number8 Base16",  # RFC 7344, 3.1
     "CDNSKEY": "Number16 Number8 Number8 Base64",  # RFC 7344, 3.2
@@ -87,6 +89,8 @@ FIELDS = {
     "ZONEMD": "Serial Number8 Number8 Base16",  # RFC 8976, 2.2
     "SVCB": "Number16 Name SvcParams",  # RFC 9460, 2.2
     "HTTPS": "Number16 Name SvcParams",  # RFC 9460, 9
+    "HHIT": "Base64",  # RFC 9886, 5.1
+    "BRID": "Base64",  # RFC 9886, 5.2
     "SPF": "CharStrings",  # RFC 4408, 3.1.1
     "NID": "Number16 Number64",  # RFC 6742, 2.1
     "L32": "Number16 Ipv4",  # RFC 6742, 2.2
@@ -100,6 +104,9 @@ FIELDS = {
     "CAA": "Number8 Tag QuotedText",  # RFC 8659, 4.1
     "AVC": "CharStrings",  # the registry of IANA: as TXT
     "AMTRELAY": "Octets",  # RFC 8777, 4.2
+    "RESINFO": "CharStrings",  # RFC 9606, 4
+    "WALLET": "CharStrings",  # the registry of IANA: as TXT
+    "CLA": "CharStrings",  # the registry of IANA: as TXT
     "DLV": "Number16 Number8 Number8 Base16",  # RFC 4431, 2
 }
 # The types whose data has its fields in class IN alone
