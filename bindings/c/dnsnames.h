@@ -431,12 +431,13 @@ typedef struct dnsnames_field {
  *     HINFO                              CHAR_STRING CHAR_STRING
  *     GPOS                               CHAR_STRING CHAR_STRING CHAR_STRING
  *     ISDN                               CHAR_STRING OPTIONAL_STRING
- *     TXT SPF AVC                        CHAR_STRINGS
+ *     TXT NINFO SPF AVC RESINFO          CHAR_STRINGS
+ *     WALLET CLA                         CHAR_STRINGS
  *     CAA                                NUMBER8 TAG QUOTED_TEXT
  *     URI                                NUMBER16 NUMBER16 QUOTED_TEXT
  *     SVCB * HTTPS *                     NUMBER16 NAME SVC_PARAMS
  *     SIG RRSIG                          TYPE NUMBER8 NUMBER8 TTL TIME TIME NUMBER16 NAME BASE64
- *     KEY DNSKEY CDNSKEY                 NUMBER16 NUMBER8 NUMBER8 BASE64
+ *     KEY DNSKEY RKEY CDNSKEY            NUMBER16 NUMBER8 NUMBER8 BASE64
  *     DS CDS DLV                         NUMBER16 NUMBER8 NUMBER8 BASE16
  *     NSEC                               NAME TYPE_BITMAPS
  *     NSEC3                              NUMBER8 NUMBER8 NUMBER16 COUNTED_BASE16 COUNTED_BASE32 OPTIONAL_TYPE_BITMAPS
@@ -446,7 +447,7 @@ typedef struct dnsnames_field {
  *     CERT                               NUMBER16 NUMBER16 NUMBER8 BASE64
  *     SSHFP                              NUMBER8 NUMBER8 BASE16
  *     TLSA SMIMEA                        NUMBER8 NUMBER8 NUMBER8 BASE16
- *     DHCID * OPENPGPKEY                 BASE64
+ *     DHCID * OPENPGPKEY HHIT BRID       BASE64
  *     NID L64                            NUMBER16 NUMBER64
  *     L32                                NUMBER16 IPV4
  *     EUI48                              NUMBER48
@@ -524,9 +525,9 @@ dnsnames_status dnsnames_data_number(const uint8_t *message, size_t message_len,
 dnsnames_status dnsnames_data_address(const uint8_t *message, size_t message_len, size_t data, size_t data_len,
                                       uint16_t type, uint8_t *buffer, size_t capacity, size_t *length);
 
-/* The character strings of the data of TXT (RFC 1035, 3.3.14), SPF (RFC 4408, 3.1.1) and AVC, one after another: *passed
- * is how many octets of the data were passed, 0 for the first string and then as the call leaves it. *string becomes the
- * offset of the string's octets in the message, *string_len how many there are.
+/* The character strings of data whose only field is CHAR_STRINGS, as of TXT (RFC 1035, 3.3.14) and SPF (RFC 4408, 3.1.1),
+ * one after another: *passed is how many octets of the data were passed, 0 for the first string and then as the call leaves
+ * it. *string becomes the offset of the string's octets in the message, *string_len how many there are.
  *
  * NO_MORE where all strings were passed. NO_FIELD where the type is another; SHORT_INPUT where the data end past the
  * message, where they end in the string, or where they have no octet, since there is one string at least.

@@ -874,6 +874,8 @@ static const struct {
     {51, "112h"},       /* NSEC3PARAM: RFC 5155, 4.2 */
     {52, "111x"},       /* TLSA: RFC 6698, 2.1 */
     {53, "111x"},       /* SMIMEA: RFC 8162, 2 */
+    {56, "C"},          /* NINFO */
+    {57, "211X"},       /* RKEY */
     {58, "nn"},         /* TALINK */
     {59, "211x"},       /* CDS: RFC 7344, 3.1 */
     {60, "211X"},       /* CDNSKEY: RFC 7344, 3.2 */
@@ -882,6 +884,8 @@ static const struct {
     {63, "s11x"},       /* ZONEMD: RFC 8976, 2.2 */
     {64, "-2np"},       /* SVCB: RFC 9460, 2.2 */
     {65, "-2np"},       /* HTTPS: RFC 9460, 2.2 */
+    {67, "X"},          /* HHIT: RFC 9886, 5.1 */
+    {68, "X"},          /* BRID: RFC 9886, 5.2 */
     {99, "C"},          /* SPF: RFC 4408, 3.1.1 */
     {104, "28"},        /* NID: RFC 6742, 2.1 */
     {105, "2a"},        /* L32: RFC 6742, 2.2 */
@@ -894,6 +898,9 @@ static const struct {
     {256, "22q"},       /* URI: RFC 7553, 4 */
     {257, "1gq"},       /* CAA: RFC 8659, 4.1 */
     {258, "C"},         /* AVC */
+    {261, "C"},         /* RESINFO: RFC 9606, 4 */
+    {262, "C"},         /* WALLET */
+    {263, "C"},         /* CLA */
     {32769, "211x"},    /* DLV: RFC 4431, 2 */
 };
 

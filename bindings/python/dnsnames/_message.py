@@ -192,7 +192,7 @@ class Record(NamedTuple):
         return IPv4Address(octets) if len(octets) == 4 else IPv6Address(octets)
 
     def strings(self) -> Iterator[bytes]:
-        """The character strings of a TXT, SPF or AVC record, one after another. Raises NoField for another type, and
+        """The character strings of a TXT record, or one of a type like it, one after another. Raises NoField for another type, and
         ShortInput where the data have no string, or at the string in which they end."""
         passed, offset, length = c_size_t(), c_size_t(), c_size_t()
         while True:

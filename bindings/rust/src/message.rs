@@ -344,7 +344,7 @@ impl<'a> Message<'a> {
         })
     }
 
-    /// The character strings of a TXT, SPF or AVC record of this message, one after another. Its fault ends them: `NoField` where
+    /// The character strings of a TXT record of this message, or one of a type like it, one after another. Its fault ends them: `NoField` where
     /// the type is another, `ShortInput` where the data have no string or end in one.
     ///
     /// ```
