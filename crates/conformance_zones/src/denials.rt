@@ -4,8 +4,8 @@ use crate::fields::name_of;
 use crate::zones::{put_rrset, zone_of};
 use conformance_labels::{Answer, is, number_up_to, split_once};
 use domain_zone::{Owner, Zone};
-use domain_zone_denial::{Denial, denial_for};
 use domain_zone_laws::zone::Rrset;
+use domain_zone_signed::{Denial, denial_for};
 
 /// `denial APEX RECORDS QUESTIONS`
 pub fn put_denials(out: &Answer, apex: &[u8], records: &[u8], questions: &[u8]) {
