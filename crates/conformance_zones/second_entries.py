@@ -1,17 +1,17 @@
 #!/usr/bin/env python3
 """A second reader of the text of a zone, written from RFC 1035 (5), RFC 2181 (8), RFC 2308 (4) and RFC 3597 (5).
 
-    second_zone.py < LINES
+    second_entries.py < LINES
 
-It answers the lines `zone` of the table of texts, and any other line with `bad`. `second` reads names, the data of a
-record and the mnemonic of a type. Where the RFCs leave a choice, it is as the README.md of `domain_zone_text` says.
+It answers the lines `entries` and `ttl` of the table, and any other line with `bad`. `second_data` reads names, the
+data of a record and the mnemonic of a type. Where the RFCs leave a choice, it is as the README.md of `domain_zone_text` says.
 """
 import re
 import sys
 from typing import NamedTuple, Optional
 
 sys.dont_write_bytecode = True
-import second
+import second_data
 
 IN = 1
 CLASSES = {b"IN": 1, b"CH": 3, b"HS": 4, b"NONE": 254, b"ANY": 255, b"*": 255}  # the registry of RFC 6895, 3.2
@@ -74,7 +74,7 @@ def class_of(word):
     numbered = CLASS.fullmatch(word.upper())
     if not numbered:
         return CLASSES.get(word.upper())
-    number = second.whole(numbered[1])
+    number = second_data.whole(numbered[1])
     return number if number <= 0xFFFF else None
 
 
@@ -112,7 +112,7 @@ def words_of(entry, start):
 def read_name(place, context):
     """The name that the word at a place is, or its fault."""
     at, word = place
-    name = second.name_octets(word, context.origin)
+    name = second_data.name_octets(word, context.origin)
     if name is None:
         raise Refused(at, "Name")
     return name
@@ -121,7 +121,7 @@ def read_name(place, context):
 def read_ttl(place):
     """The TTL that the word at a place is, or its fault."""
     at, word = place
-    ttl = second.ttl_of(word)
+    ttl = second_data.ttl_of(word)
     if ttl is None:
         raise Refused(at, "Ttl")
     return ttl
@@ -159,7 +159,7 @@ def read_head(words, end):
         elif rclass is None and class_of(word) is not None:
             rclass = class_of(word)
         else:
-            rtype = second.type_of(word)
+            rtype = second_data.type_of(word)
             if rtype is None:
                 raise Refused(at, "Rtype")
             return ttl, rclass, rtype, (at, word)
@@ -170,8 +170,8 @@ def read_data(rtype, rclass, octets, at, origin):
     """The data of a record from the octets after its type, which are at an offset. Names in it go on with the origin
     (RFC 1035, 5.1)."""
     try:
-        return second.read(rtype, rclass, octets, origin)
-    except second.Refused as refused:
+        return second_data.read(rtype, rclass, octets, origin)
+    except second_data.Refused as refused:
         raise Refused(at + refused.at, f"Data/{refused.reason}") from None
 
 
@@ -233,7 +233,7 @@ def answer_text(origin, text):
         for entry in entries(origin, text):
             parts.append(str(entry))
     except Refused as refused:
-        line, column = second.place_of(text, refused.at)
+        line, column = second_data.place_of(text, refused.at)
         parts.append(f"err {line} {column} {refused.reason}")
     return " ".join(parts) or "none"
 
@@ -242,15 +242,15 @@ def answer(line):
     """The answer to a line without its end."""
     if line.startswith(b"#"):
         return line.decode(errors="surrogateescape")
-    word, *fields = line.split(b" ", 2 if line.startswith(b"zone ") else 1)
+    word, *fields = line.split(b" ", 2 if line.startswith(b"entries ") else 1)
     try:
         if word == b"ttl" and len(fields) == 1:
-            ttl = second.ttl_of(second.text_of(fields[0]))
+            ttl = second_data.ttl_of(second_data.text_of(fields[0]))
             return "none" if ttl is None else str(ttl)
-        if word == b"zone" and len(fields) == 2:
-            origin, text = second.octets_of(fields[0]), second.text_of(fields[1])
+        if word == b"entries" and len(fields) == 2:
+            origin, text = second_data.octets_of(fields[0]), second_data.text_of(fields[1])
             return answer_text(origin, text) if is_wire_name(origin) else "bad"
-    except second.BadLine:
+    except second_data.BadLine:
         pass
     return "bad"
 

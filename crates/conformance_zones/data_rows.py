@@ -1,6 +1,6 @@
 #!/usr/bin/env python3
-"""The rows `read` and `show` of the table of texts, always the same: those with their answers beside them, from the
-RFCs or by the way they are made, and those that second.py alone answers.
+"""The rows `read`, `show`, `words` and `place` of the table, always the same: those with their answers beside them, from the
+RFCs or by the way they are made, and those that second_data.py alone answers.
 
 `rows` gives each heading and each line, with its answer or None."""
 

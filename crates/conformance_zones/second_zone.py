@@ -15,6 +15,11 @@ def text_of(labels):
     return ".".join(labels) + "."
 
 
+def wire(labels):
+    """The wire format of a name (RFC 1035, 3.1)."""
+    return b"".join(bytes([len(it)]) + it.encode("latin-1") for it in labels) + b"\0"
+
+
 def octets_of(labels):
     """How many octets the name has (RFC 1035, 3.1)."""
     return sum(len(it) + 1 for it in labels) + 1
@@ -173,7 +178,7 @@ class Zone:
             is_asked = depth + 1 == len(path)
             if NS in node.sets and not (is_asked and rtype == DS):
                 servers = node.sets[NS]
-                return f"referral {servers.owner}", [], [shown(NS, servers)], self.glue(servers)
+                return f"referral {servers.owner}", [], [in_section(NS, servers)], self.glue(servers)
         answer, section = found(node, rtype, None)
         return answer, section, self.denial(answer), []
 
@@ -182,10 +187,10 @@ class Zone:
         if DNAME in node.sets:
             dname = node.sets[DNAME]
             made = front + name_in(min(dname.spellings))
-            section = [shown(DNAME, dname)]
+            section = [in_section(DNAME, dname)]
             if octets_of(made) > MOST_OCTETS:
                 return f"too long {dname.owner}", section, [], []
-            section.append(f"{name}/{CNAME}/{dname.ttl}/{text_of(made)}")
+            section.append((name, CNAME, [(dname.ttl, wire(made))]))
             return f"redirect {dname.owner} {text_of(made)}", section, [], []
         if "*" in node.below:
             answer, section = found(node.below["*"], rtype, name)
@@ -197,13 +202,13 @@ class Zone:
         soa = self.top.sets[SOA]
         least = minimum_in(min(soa.spellings))
         ttl = soa.ttl if least is None else min(soa.ttl, least)
-        return [shown(SOA, soa, ttl=ttl)] if answer in ("no data", "name error") else []
+        return [in_section(SOA, soa, ttl=ttl)] if answer in ("no data", "name error") else []
 
     def glue(self, servers):
         """The addresses of name servers that the zone has (RFC 1034, 4.3.2, step 3b; RFC 9471, 3)."""
         names = [name_in(it) for it in sorted(servers.spellings)]
         owned = [self.owned(it) for it in names if it is not None]
-        return [shown(rtype, sets[rtype]) for sets in owned for rtype in (A, AAAA) if rtype in sets]
+        return [in_section(rtype, sets[rtype]) for sets in owned for rtype in (A, AAAA) if rtype in sets]
 
 
 def header_of(answer):
@@ -214,9 +219,23 @@ def header_of(answer):
     return f"aa={int(not answer.startswith(('referral', 'out of zone')))} rcode={rcode}"
 
 
-def shown(rtype, rrset, owner=None, ttl=None):
-    """An RRset of a section."""
-    return f"{owner or rrset.owner}/{rtype}/{rrset.ttl if ttl is None else ttl}/{len(rrset.spellings)}"
+def in_section(rtype, rrset, owner=None, ttl=None):
+    """An RRset of a section: its owner, its type, and the TTL and data of each record."""
+    return owner or rrset.owner, rtype, [(own if ttl is None else ttl, data) for own, data in rrset.records]
+
+
+def shown(owner, rtype, records):
+    """The same as text. RRSIG records can have several TTLs, all of which are shown."""
+    ttls = [str(ttl) for ttl, _ in records]
+    return f"{owner}/{rtype}/{'+'.join(ttls) if rtype == RRSIG else ttls[0]}/{len(records)}"
+
+
+def sections_as_text(answer, sections):
+    """The sections of an answer. The CNAME that a DNAME makes has its target in place of the number of its records."""
+    parts = [[shown(*it) for it in section] for section in sections]
+    if answer.startswith("redirect "):
+        parts[0][-1] = f"{parts[0][-1].rpartition('/')[0]}/{answer.rpartition(' ')[2]}"
+    return "".join(f" {word}={','.join(it) or '-'}" for word, it in zip(("an", "ns", "ar"), parts))
 
 
 def found(node, rtype, asked):
@@ -224,11 +243,11 @@ def found(node, rtype, asked):
     asked for (RFC 4592, 3.3.1). Of all types the lowest is chosen (RFC 8482, 4.1)."""
     sets = node.sets
     if rtype == ANY and sets:
-        return "any types", [shown(min(sets), sets[min(sets)], asked)]
+        return "any types", [in_section(min(sets), sets[min(sets)], asked)]
     if rtype in sets:
-        return f"records {sets[rtype].owner} {rtype}", [shown(rtype, sets[rtype], asked)]
+        return f"records {sets[rtype].owner} {rtype}", [in_section(rtype, sets[rtype], asked)]
     if CNAME in sets:
-        return f"alias {sets[CNAME].owner}", [shown(CNAME, sets[CNAME], asked)]
+        return f"alias {sets[CNAME].owner}", [in_section(CNAME, sets[CNAME], asked)]
     return "no data", []
 
 
@@ -244,5 +263,5 @@ def answers(apex, records, questions):
         owned = zone.owned(labels_of(name))
         answer, *sections = zone.answer(name, rtype)
         said += f"; sets={len(owned)} has={int(rtype in owned)} {header_of(answer)} {answer}"
-        said += "".join(f" {word}={','.join(it) or '-'}" for word, it in zip(("an", "ns", "ar"), sections))
+        said += sections_as_text(answer, sections)
     return said

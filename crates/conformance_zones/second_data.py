@@ -1,7 +1,7 @@
 #!/usr/bin/env python3
-"""Answers the lines `read` and `show` of the table of texts, one for each line of standard input.
+"""Answers the lines `read`, `show`, `words` and `place` of the table, one for each line of standard input.
 
-    second.py < LINES
+    second_data.py < LINES
 
 A second reader and writer of record data, written from the standards: RFC 1035 (3.1, 3.3, 4.1.4 and 5.1) for names,
 character strings, numbers and words; RFC 3597 (4 and 5) for data of any type and for the names of types; RFC 4291

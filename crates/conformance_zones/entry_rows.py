@@ -1,6 +1,6 @@
 #!/usr/bin/env python3
-"""The rows `zone` and `ttl` of the table of texts, always the same: those with their answers beside them, from the RFCs or by the
-way they are made, and those that second_zone.py alone answers.
+"""The rows `entries` and `ttl` of the table, always the same: those with their answers beside them, from the RFCs or by
+the way they are made, and those that second_entries.py alone answers.
 
 `rows` gives each heading and each line, with its answer or None. In a refused text, `^` is before the octet at fault,
 and isn't in the line."""
@@ -74,7 +74,7 @@ def row(text, *answers, origin=EXAMPLE):
     """A line and its answer, or None if none is given. Text that isn't plain is written by its digits."""
     text = text if isinstance(text, bytes) else text.encode("latin-1")
     shown = text if PLAIN.fullmatch(text) else b"hex:" + (text.hex() or "-").encode()
-    return b"zone " + origin.hex().encode() + b" " + shown, " ".join(answers) or None
+    return b"entries " + origin.hex().encode() + b" " + shown, " ".join(answers) or None
 
 
 def refused(marked, reason, *before, origin=EXAMPLE):
@@ -739,15 +739,18 @@ def cut_rows():
 
 # Lines that aren't understood: a field is absent, or the origin isn't a name in wire format (RFC 1035, 3.1)
 BAD = [
-    b"zone", b"zone 00", b"zone  ", b"zone  . 5 TXT x", b"zone - . 5 TXT x", b"zone 0 . 5 TXT x", b"zone 000 . 5 TXT x",
-    b"zone 0g . 5 TXT x", b"zone 0000 . 5 TXT x", b"zone 01 . 5 TXT x", b"zone 0161 . 5 TXT x",
-    b"zone 016100ff . 5 TXT x",
-    b"zone 4161 . 5 TXT x", b"zone 40" + 64 * b"61" + b"00 . 5 TXT x", b"zone c000 . 5 TXT x",
-    b"zone 0161c000 . 5 TXT x",
-    b"zone 80 . 5 TXT x", b"zone 026100 . 5 TXT x",
-    b"zone example. . 5 TXT x", b"zone . . 5 TXT x",
-    b"zone " + 127 * b"0161" + b"0161" + b"00 . 5 TXT x", b"zone 00 hex:0", b"zone 00 hex:0g", b"zone 00 hex:2e 20",
-    b"zone 00 hex:2e205", b"Zone 00 . 5 TXT x", b"zones 00 . 5 TXT x", b"zone\t00 . 5 TXT x", b"zone 0x00 . 5 TXT x",
+    b"entries", b"entries 00", b"entries  ", b"entries  . 5 TXT x", b"entries - . 5 TXT x", b"entries 0 . 5 TXT x",
+    b"entries 000 . 5 TXT x",
+    b"entries 0g . 5 TXT x", b"entries 0000 . 5 TXT x", b"entries 01 . 5 TXT x", b"entries 0161 . 5 TXT x",
+    b"entries 016100ff . 5 TXT x",
+    b"entries 4161 . 5 TXT x", b"entries 40" + 64 * b"61" + b"00 . 5 TXT x", b"entries c000 . 5 TXT x",
+    b"entries 0161c000 . 5 TXT x",
+    b"entries 80 . 5 TXT x", b"entries 026100 . 5 TXT x",
+    b"entries example. . 5 TXT x", b"entries . . 5 TXT x",
+    b"entries " + 127 * b"0161" + b"0161" + b"00 . 5 TXT x", b"entries 00 hex:0", b"entries 00 hex:0g",
+    b"entries 00 hex:2e 20",
+    b"entries 00 hex:2e205", b"Entries 00 . 5 TXT x", b"entry 00 . 5 TXT x", b"entries\t00 . 5 TXT x",
+    b"entries 0x00 . 5 TXT x",
 ]
 
 
@@ -1070,7 +1073,7 @@ def piece_rows(draw, count):
 
 
 def listed_rows(texts):
-    """Texts with their answers beside them; without one, second_zone.py alone has it."""
+    """Texts with their answers beside them; without one, second_entries.py alone has it."""
     return [row(text, *answers) for text, *answers in texts]
 
 

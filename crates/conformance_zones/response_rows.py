@@ -1,24 +1,15 @@
-#!/usr/bin/env python3
-"""Writes stdin and stdout of the table of responses, always the same: rows whose headers are beside them, from the
-RFCs, zones of the table of zones with their questions, and zones and queries that are drawn from a fixed seed; then the
-same for DNSSEC, where the types of each section are beside a header. second_writer.py answers all, and has to answer
-the rows with headers as they say here. The last line is how many rows and queries there are."""
+"""The rows `respond` of the table, always the same: rows whose headers are beside them, from the RFCs, zones of
+zone_rows.py with their questions, and zones and queries that are drawn from a fixed seed; then the same for DNSSEC,
+where the types of each section are beside a header. second_writer.py answers all, and has to answer the rows with
+headers as they say here."""
 
-import importlib.util
-import pathlib
 import random
 import struct
 import sys
 
-sys.dont_write_bytecode = True
-HERE = pathlib.Path(__file__).resolve().parent
-sys.path.insert(0, str(HERE))
 import second_writer as writer
+import zone_rows as drawing
 from second_writer import zones
-
-found = importlib.util.spec_from_file_location("table_of_zones", HERE.parent / "conformance_zones/table.py")
-drawing = importlib.util.module_from_spec(found)
-found.loader.exec_module(drawing)
 
 A, NS, CNAME, SOA, MX, TXT, AAAA, DNAME, OPT = 1, 2, 5, 6, 15, 16, 28, 39, 41
 HINFO, DS, RRSIG, NSEC, DNSKEY = 13, 43, 46, 47, 48
@@ -990,8 +981,8 @@ def told_rows():
         yield heading, zone, apex, records, sent, OWN, [it[0] for it in asked]
 
 
-def zone_rows():
-    """The zones of the RFCs that the table of zones has, each asked without and with EDNS, and with each octet cut."""
+def asked_rows():
+    """The zones of the RFCs in zone_rows.py, each asked without and with EDNS, and with each octet cut."""
     for heading, apex, rows, asked in drawing.told_rows():
         zone = zones.Zone(apex)
         records = drawing.records_of(apex, rows)
@@ -1059,25 +1050,12 @@ def cut_rows():
     yield "RFC 4035, appendix B, with longer signatures, at several sizes", zone, apex, records, UDP, OWN, asked
 
 
-def main():
-    lines, said, heading, count = [], [], "", 0
-    draw = random.Random(SEED)
-    drawn = drawn_rows(draw)
-    rows = [*told_rows(), *zone_rows()] + [("zones and queries that are drawn", *next(drawn)) for _ in range(ZONES)]
-    drawn, topic = drawn_signed_rows(random.Random(SIGNED_SEED)), "zones with records of DNSSEC that are drawn"
-    rows += [*signed_rows(), *cut_rows()] + [(topic, *next(drawn)) for _ in range(SIGNED_ZONES)]
-    for topic, zone, apex, records, sent, size, asked in rows:
-        if topic != heading:
-            heading = topic
-            lines.append(f"# {topic}")
-            said.append(f"# {topic}")
-        lines.append(line_of(apex, records, sent, size, asked))
-        said.append(answers(zone, sent, size, asked))
-        count += len(asked)
-    (HERE / "stdin").write_text("\n".join(lines) + "\n")
-    (HERE / "stdout").write_text("\n".join(said) + "\n")
-    print(f"{len(rows)} rows, with {count} queries")
-
-
-if __name__ == "__main__":
-    main()
+def rows():
+    """Each heading and each line, with its answer."""
+    draw, signed = drawn_rows(random.Random(SEED)), drawn_signed_rows(random.Random(SIGNED_SEED))
+    made = [*told_rows(), *asked_rows()]
+    made += [("zones and queries that are drawn", *next(draw)) for _ in range(ZONES)]
+    made += [*signed_rows(), *cut_rows()]
+    made += [("zones with records of DNSSEC that are drawn", *next(signed)) for _ in range(SIGNED_ZONES)]
+    lines = ((topic, line_of(*it), answers(zone, *it[2:])) for topic, zone, *it in made)
+    return [*drawing.headed(lines)]

@@ -6,8 +6,8 @@ use domain_name::Name;
 use domain_rdata_text::{Place, ttl_of};
 use domain_zone_text::{Context, Directive, Entry, EntryReason, Record, ZoneReader, ZoneTextError};
 
-/// `zone ORIGIN TEXT`: the records of the text, and the files that it includes; then its first fault, if it has one.
-pub fn put_zone(out: &Answer, line: &[u8]) {
+/// `entries ORIGIN TEXT`: the records of the text and the files that it includes; then its first fault, if it has one.
+pub fn put_entries(out: &Answer, line: &[u8]) {
     let fields = &Fields::new(line);
     let origin = fields.octets(1, out);
     let text = text_of(out, line, 2);
@@ -21,7 +21,7 @@ pub fn put_zone(out: &Answer, line: &[u8]) {
         stated_ttl: None,
         class: 1,
     };
-    put_entries(
+    put_each(
         out,
         text.as_slice(),
         ZoneReader::new(text.as_slice(), context),
@@ -38,7 +38,7 @@ pub fn put_ttl(out: &Answer, line: &[u8]) {
 }
 
 /// Appends the entries that a reader of a text has, up to the first fault.
-fn put_entries(out: &Answer, text: &[u8], reader: ZoneReader<'_>) {
+fn put_each(out: &Answer, text: &[u8], reader: ZoneReader<'_>) {
     let mut reader = reader;
     let mut is_first = true;
     // An entry has an octet or more.

@@ -1,5 +1,5 @@
 #!/usr/bin/env python3
-"""Compares the answers of the table of texts with dnspython 2.3, word by word.
+"""Compares what the table answers to `read`, `show` and `entries` with dnspython 2.3, word by word.
 
     dnspython.py LINES ANSWERS
 
@@ -1006,7 +1006,7 @@ def compared_zone(line, answer):
 
 def compared(line, answer):
     """The turns and reasons of a row, None where it is different; and the row."""
-    if line.startswith(b"zone "):
+    if line.startswith(b"entries "):
         return compared_zone(line, answer)
     call, rtype, rclass, rest = line.split(b" ", 3)
     if call == b"read":
@@ -1023,7 +1023,7 @@ def main():
     with open(sys.argv[1], "rb") as lines, open(sys.argv[2], "rb") as answers:
         for line, answer in zip(lines, answers, strict=True):
             line, answer = line.rstrip(b"\n"), answer.rstrip(b"\n")
-            if not line.startswith((b"read ", b"show ", b"zone ")) or answer == b"bad":
+            if not line.startswith((b"read ", b"show ", b"entries ")) or answer == b"bad":
                 continue
             found, row = compared(line, answer)
             if found is None:

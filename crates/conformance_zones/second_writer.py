@@ -3,32 +3,15 @@
 sections of each question are those of the second reader of zones, and so is what denies for it; here aliases are
 followed, the records of DNSSEC are added where a query asks for them, and the sections become octets."""
 
-import pathlib
 import struct
-import sys
 
-sys.path.insert(0, str(pathlib.Path(__file__).resolve().parents[1] / "conformance_zones"))
-import second as zones
 import second_denial as denials
+import second_zone as zones
 
 FORMERR, NOTIMP, REFUSED, BADVERS = 1, 4, 5, 16
 LEAST, STREAM = 512, 65535
 ALIASES = 16  # That many are followed: the library's choice.
 DO = 0x8000  # RFC 3225, 3: a bit of the TTL of an OPT record.
-
-
-def wire(labels):
-    """The wire format of a name (RFC 1035, 3.1)."""
-    return b"".join(bytes([len(it)]) + it.encode("latin-1") for it in labels) + b"\0"
-
-
-def with_data(rtype, rrset, owner=None, ttl=None):
-    """An RRset of a section, in place of its text: its owner, its type, and the TTL and data of each record."""
-    records = [(own if ttl is None else ttl, data) for own, data in rrset.records]
-    return owner or rrset.owner, rtype, records
-
-
-zones.shown = denials.shown = with_data
 
 
 class Short(Exception):
@@ -185,15 +168,6 @@ def fill(writer, sections, room):
     return writer, counts, False
 
 
-def with_made(section):
-    """An answer section, with the CNAME that a DNAME makes as an RRset."""
-    parts = [it.split("/") if isinstance(it, str) else None for it in section]
-    return [
-        (made[0], int(made[1]), [(int(made[2]), wire(zones.labels_of(made[3])))]) if made else it
-        for it, made in zip(section, parts)
-    ]
-
-
 def followed(zone, name, rtype):
     """The names of a chain of questions, each with the answer of a zone and its sections (RFC 1034, 4.3.2, step 3a; RFC
     6672, 3.2). The last owner of an answer section is the alias, whose one record is its target. No name is asked
@@ -201,7 +175,6 @@ def followed(zone, name, rtype):
     said, asked = [], []
     while True:
         answer, section, *rest = zone.answer(name, rtype)
-        section = with_made(section)
         said.append((name, answer, section, *rest))
         asked.append([it.lower() for it in zones.labels_of(name)])
         is_alias = answer.removeprefix("synthesized ").startswith("alias ") or answer.startswith("redirect ")

@@ -1,9 +1,26 @@
-//! The messages that answer queries to a zone.
+//! A zone that is made of records, and the messages that answer queries to it.
 
-use conformance_labels::{Answer, Fail, is, number_up_to, octets_of, split_once};
+use crate::records::{builder_of, finish, insert};
+use crate::text::put_space;
+use conformance_labels::{Answer, Fail, Fields, is, number_up_to, octets_of, split_once};
 use domain_compress::CompressComposer;
 use domain_zone::Zone;
 use domain_zone_response::{ResponseError, Server, Transport, respond_to};
+
+/// The zone of an apex and records, `;` between these. If they make none, that is noted.
+fn zone_of(out: &Answer, apex: &[u8], records: &[u8]) -> Option<Zone> {
+    let mut builder = builder_of(out, apex)?;
+    for record in records.split(|octet| *octet == b';') {
+        if insert(out, &mut builder, record).is_err() {
+            out.fail(Fail::Bad);
+        }
+    }
+    let zone = finish(out, builder);
+    if zone.is_none() {
+        out.fail(Fail::Bad);
+    }
+    zone
+}
 
 /// `udp/SIZE` or `tcp/SIZE`: how responses are sent, and the size that the server states.
 fn server_of(out: &Answer, text: &[u8]) -> Option<Server> {
@@ -34,19 +51,21 @@ fn put_response(out: &Answer, zone: &Zone, server: Server, query: &[u8]) {
     }
 }
 
-/// Appends the messages that answer queries, `;` between these, with a space between two.
-pub fn put_responses(out: &Answer, zone: &Zone, server: &[u8], queries: &[u8]) {
-    let Some(server) = server_of(out, server) else {
+/// `respond APEX RECORDS SERVER QUERIES`: the messages that answer queries, with a space between two.
+pub fn put_responses(out: &Answer, line: &[u8]) {
+    let fields = &Fields::new(line);
+    fields.expect(5, out);
+    let Some(zone) = zone_of(out, fields.at(1), fields.at(2)) else {
+        return;
+    };
+    let Some(server) = server_of(out, fields.at(3)) else {
         return;
     };
     let mut is_first = true;
-    for query in queries.split(|octet| *octet == b';') {
-        if !is_first {
-            out.put(b" ");
-        }
-        is_first = false;
+    for query in fields.at(4).split(|octet| *octet == b';') {
+        put_space(out, &mut is_first);
         match octets_of(query, out.alloc()) {
-            Ok(query) => put_response(out, zone, server, query.as_slice()),
+            Ok(query) => put_response(out, &zone, server, query.as_slice()),
             Err(fail) => out.fail(fail),
         }
     }
