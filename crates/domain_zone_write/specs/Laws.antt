@@ -3,7 +3,7 @@ use Rattle.std.specs.Prelude.{◌≡◌, ℕ, ◌<◌, ◌≤◌, List, length, 
 use Rattle.std.specs.List.{All}
 use Rattle.domain_descriptor.specs.Table.{known_fields}
 use Rattle.domain_header.specs.Values.{class_number}
-use Rattle.domain_label.specs.Wire.{labels_in, wire}
+use Rattle.domain_label.specs.Wire.{IsAbsoluteWire, labels_in, wire}
 use Rattle.domain_rdata_text.specs.Laws.{AreOctets}
 use Rattle.domain_rdata_text.specs.Texts.{IsPlain}
 use Rattle.domain_zone.specs.Building.{Inserted}
@@ -35,6 +35,12 @@ pub record IsReadableZone (class : ℕ) (z : Zone) : Type 0 where
   pub canonical : IsCanonical z
   pub records : All (IsReadable class) (zone_records z)
 
+-- Octets and numbers are in their ranges, as they are in each zone of the program.
+pub record AreInRange (class : ℕ) (z : Zone) : Type 0 where
+  pub small_class : class < 65536
+  pub octets : All (λ r. AreOctets r.octets) (zone_records z)
+  pub owners : All (λ r. AreOctets (wire r.owner)) (zone_records z)
+
 -- It is the zone z of this class: at its apex, with its records, each with its TTL, and no others.
 pub record IsSameZone (class : ℕ) (z : Zone) (made : kept.Zone) : Type 0 where
   pub apex : (zone_view made).apex ≡ z.apex
@@ -59,3 +65,8 @@ pub record IsLoadedAs (text apex : List ℕ) (class : ℕ) (z : Zone) : Type 0 w
 abbrev pub IsWrittenToBeLoaded : Zone → List ℕ → ℕ → List ℕ → Type 0
 IsWrittenToBeLoaded z apex class text =
     IsReadableZone class z → labels_in apex ≡ z.apex → IsZoneText class z text → IsLoadedAs text apex class z
+
+-- The zone of a text at this apex and of this class can be said by a text.
+abbrev pub IsLoadedToBeReadable : List ℕ → List ℕ → ℕ → kept.Zone → Type 0
+IsLoadedToBeReadable text apex class made =
+    IsAbsoluteWire apex → AreInRange class (zone_view made) → IsZoneOf text apex class made → IsReadableZone class (zone_view made)
