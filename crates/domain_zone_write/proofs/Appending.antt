@@ -18,7 +18,7 @@ use Rattle.domain_zone_write.proofs.Starting.{HasWord, has_word}
 use Rattle.domain_zone_write.proofs.Members.{inserted_by}
 use Rattle.domain_zone_write.specs.Texts.{AppendsLine, AppendsLines, HoldsData, IsLineOf, record_of, set_records, zone_records}
 
--- ---- the elements of a list that are left
+-- ---- the rest of a list
 pub drop_here : {X Y : Type 0} (f : X → Y) (xs : List X) (i : ℕ) (x : X) → i < length xs → x ≡ get_or xs i x → drop i (map f xs) ≡ f x ∷ drop (i + 1) (map f xs)
 drop_here {X} {Y} f xs i x lt is =
     let ys = map f xs in

@@ -1,5 +1,5 @@
 -- The records of a zone that is loaded can be said by a text.
-use Rattle.std.proofs.Common.{◌≡◌, ◌≢◌, ◌∙◌, ℕ, ◌+◌, ◌-◌, ◌*◌, ◌<◌, ◌≤◌, ◌==◌, Bool, true, false, cond, nat_le, nat_lt, min, unwrap_or, List, [], ◌∷◌, ◌++◌, length, drop, get_or, Option, Some, None, Result, Ok, Err, refl, sym, ap, subst, inl, inr, ⊎_elim, arith}
+use Rattle.std.proofs.Common.{◌≡◌, ◌≢◌, ℕ, ◌+◌, ◌-◌, ◌*◌, ◌<◌, ◌≤◌, ◌==◌, Bool, true, false, cond, nat_le, nat_lt, min, unwrap_or, List, [], ◌∷◌, length, drop, get_or, Option, Some, None, Result, Ok, Err, refl, sym, ap, subst, inl, inr, ⊎_elim, arith}
 use Rattle.std.specs.List.{All, AllByRecursion, Contains, fold}
 use Rattle.std.proofs.lemmas.Bool.{eqb-true, leb-true, ltb-true}
 use Rattle.std.proofs.lemmas.List.Elements.{All-contains, All-map, Contains-append_cases, recursion_from_All}
@@ -19,11 +19,11 @@ use Rattle.domain_rdata_text.specs.Texts.{fields_octets, IsPlain, only_data, rea
 use Rattle.domain_rdata_text.specs.Words.{split, WordAt}
 use Rattle.domain_rdata_text.proofs.Strung.{cond_some, none_some, same_some}
 use Rattle.domain_zone.proofs.Had.{canonical_had, zone_had}
-use Rattle.domain_zone.specs.Building.{Inserted, Holds, signature_ttl}
+use Rattle.domain_zone.specs.Building.{Inserted, Holds}
 use Rattle.domain_zone.specs.Kept.{zone_view}
 use Rattle.domain_zone.specs.declared.kept.Zone as kept
 use Rattle.domain_zone_laws.specs.Views.{rrset, zone_of}
-use Rattle.domain_zone_laws.specs.Zone.{Zone, RRset, IsDataType, IsZone, covered_type, lower_covered, lower_ttl, lowest_covered, NSEC3, OPT, record_ttl, RRSIG}
+use Rattle.domain_zone_laws.specs.Zone.{Zone, RRset, IsDataType, IsZone, covered_type, lower_covered, lower_ttl, lowest_covered, NSEC3, record_ttl, RRSIG}
 use Rattle.domain_zone_laws.specs.declared.zone.SignatureTtl.{SignatureTtl}
 use Rattle.domain_zone_load.specs.Loads.{HasEntries, IsZoneOf, records_of}
 use Rattle.domain_zone_load.specs.Takings.{first_setting, IsTaken, records_of_entry}
@@ -33,14 +33,15 @@ use Rattle.domain_zone_text.specs.Meanings.{RecordFront, Said, Setting}
 use Rattle.domain_zone_text.specs.Meanings.Said.{nothing, line, record_front}
 use Rattle.domain_zone_text.specs.Reading.{entry_said, EntrySaid, HasData, HasNames, IsFrontData, ReadsEntry}
 use Rattle.domain_zone_text.specs.Reading.EntrySaid.{blank, directive_line, resource_record}
+use Rattle.domain_zone_write.proofs.Loading.{loaded}
 use Rattle.domain_zone_write.proofs.Members.{all_from, in_cases, later_in, first_in, none_in}
 use Rattle.domain_zone_write.proofs.Reading.{next_reads}
 use Rattle.domain_zone_write.proofs.Same.{only_signature, there_of}
 use Rattle.domain_zone_write.proofs.Spelling.{fields_plain}
 use Rattle.domain_zone_write.proofs.Starting.{ends_last, known_end}
 use Rattle.domain_zone_write.proofs.Stating.{entry_small, HasSmallTtls, IsSmall, SaidSmall}
-use Rattle.domain_zone_write.specs.Laws.{AreInRange, IsReadable, IsReadableZone}
-use Rattle.domain_zone_write.specs.Texts.{record_of, zone_records}
+use Rattle.domain_zone_write.specs.Laws.{AreInRange, IsLoadedAs, IsReadable, IsReadableZone}
+use Rattle.domain_zone_write.specs.Texts.{IsZoneText, record_of, zone_records}
 
 -- ---- results
 abbrev AreSame : {A : Type 0} → Result A Fault → Result A Fault → Type 0
@@ -286,3 +287,9 @@ readable_zone text apex class made absolute range it =
       canonical = canonical_had z made.canonical;
       records = all_readable class z it.records fits it.holds w range;
     }
+
+-- So its text is loaded as the same zone.
+pub loaded_again : (text again apex : List ℕ) (class : ℕ) (made : kept.Zone) → IsAbsoluteWire apex → AreInRange class (zone_view made) → IsZoneOf text apex class made
+    → IsZoneText class (zone_view made) again → IsLoadedAs again apex class (zone_view made)
+loaded_again text again apex class made absolute range it lines =
+    loaded (zone_view made) apex class again (readable_zone text apex class made absolute range it) (sym it.apex_is) lines

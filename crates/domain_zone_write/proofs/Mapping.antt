@@ -1,8 +1,8 @@
 -- The bitmaps of types are blocks whose windows ascend (RFC 4034, 4.1.2).
-use Rattle.std.proofs.Common.{◌≡◌, ◌≢◌, ◌∙◌, ℕ, zero, suc, ◌+◌, ◌*◌, ◌<◌, ◌≤◌, ◌==◌, Bool, true, false, cond, List, [], ◌∷◌, ◌++◌, length, slice_index, Option, Some, None, Result, Ok, Err, refl, sym, ap, subst, append_assoc, append-nil, length-append, arith}
+use Rattle.std.proofs.Common.{◌≡◌, ◌∙◌, ℕ, zero, suc, ◌+◌, ◌*◌, ◌<◌, ◌≤◌, ◌==◌, cond, List, [], ◌∷◌, ◌++◌, length, slice_index, Option, Some, None, Result, Ok, Err, refl, sym, ap, subst, append_assoc, append-nil, length-append, arith}
 use Rattle.std.specs.Cmp.Lexicographic.{pointwise}
 use Rattle.std.proofs.lemmas.Bool.{cond-false, false≢true, ne_eqb}
-use Rattle.domain_descriptor.specs.Fields.{BlockAt, BlocksAt}
+use Rattle.domain_descriptor.specs.Fields.{BlocksAt}
 use Rattle.domain_descriptor.specs.Fields.BlocksAt.{none as no_blocks, block as a_block}
 use Rattle.domain_rdata_text.specs.declared.error.Fault.{Fault}
 use Rattle.domain_rdata_text.specs.declared.error.Reason.TheVariants as reasons
@@ -38,7 +38,7 @@ one_at m t w k os u is size some few rest =
     let parts : m ≡ front ++ (k ∷ (os ++ u)) = is ∙ sym (append_assoc t (w ∷ []) (k ∷ (os ++ u))) in
     let next : length t + 1 ≡ length front = omega (arith, front_size) in
     let second : slice_index m (length t + 1) ≡ k =
-        ap (λ (n : ℕ). slice_index m n) next ∙ (ap (λ (x : List ℕ). slice_index x (length front)) parts ∙ index_front front k (os ++ u)) in
+    ap (λ (n : ℕ). slice_index m n) next ∙ (ap (λ (x : List ℕ). slice_index x (length front)) parts ∙ index_front front k (os ++ u)) in
     let end = length (t ++ (w ∷ k ∷ os)) in
     let end_is : end ≡ length t + 2 + k = omega (arith, length-append t (w ∷ k ∷ os), size) in
     let inside : end ≤ length m = omega (arith, ap (λ (x : List ℕ). length x) is, length-append t ((w ∷ k ∷ os) ++ u), length-append os u, length-append t (w ∷ k ∷ os)) in
@@ -63,9 +63,9 @@ windows_at m t ts (suc n) u is rest =
     let b = block ts n in
     let before = t ++ blocks ts n in
     let parts : m ≡ before ++ (b ++ u) =
-        is ∙ (ap (λ (x : List ℕ). t ++ x) (append_assoc (blocks ts n) b u) ∙ sym (append_assoc t (blocks ts n) (b ++ u))) in
+    is ∙ (ap (λ (x : List ℕ). t ++ x) (append_assoc (blocks ts n) b u) ∙ sym (append_assoc t (blocks ts n) (b ++ u))) in
     let after : BlocksAt m (length (before ++ b)) (n + 1) =
-        subst (λ (k : ℕ). BlocksAt m (length (before ++ b)) k) (omega arith) (subst (λ (x : List ℕ). BlocksAt m (length x) (suc n)) (sym (append_assoc t (blocks ts n) b)) rest) in
+    subst (λ (k : ℕ). BlocksAt m (length (before ++ b)) k) (omega arith) (subst (λ (x : List ℕ). BlocksAt m (length x) (suc n)) (sym (append_assoc t (blocks ts n) b)) rest) in
     windows_at m t ts n (b ++ u) (is ∙ ap (λ (x : List ℕ). t ++ x) (append_assoc (blocks ts n) b u))
     (block_at m before ts n (bitmap_len 0 n ts) u parts (len_small n ts 0 (omega arith)) after)
 

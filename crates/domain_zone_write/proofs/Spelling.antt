@@ -1,7 +1,6 @@
 -- Data that a text says field by field are data of these fields, and no name in it is compressed.
-use Rattle.std.proofs.Common.{◌≡◌, ◌∙◌, ℕ, ◌+◌, ◌-◌, ◌*◌, ◌<◌, ◌≤◌, ◌==◌, Bool, true, false, cond, nat_le, List, [], ◌∷◌, ◌++◌, length, take, drop, replicate, slice_index, slice_range, Option, Some, None, Result, Ok, Err, refl, sym, ap, subst, inl, inr, append_assoc, append-nil, length-append, arith}
-use Rattle.std.specs.List.{flat_map, list_all}
-use Rattle.std.specs.Char.{is_ascii_alphanumeric}
+use Rattle.std.proofs.Common.{◌≡◌, ◌∙◌, ℕ, ◌+◌, ◌-◌, ◌*◌, ◌≤◌, ◌==◌, Bool, true, false, cond, nat_le, List, [], ◌∷◌, ◌++◌, length, take, drop, replicate, slice_index, slice_range, Option, Some, None, Result, Ok, Err, refl, sym, ap, subst, inl, inr, append_assoc, append-nil, length-append, arith}
+use Rattle.std.specs.List.{flat_map}
 use Rattle.std.proofs.lemmas.Bool.{false≢true, true≢false, leb-true, eqb-true}
 use Rattle.std.proofs.lemmas.List.{length-replicate}
 use Rattle.std.proofs.Math.Seq.{take-append_seam}
@@ -37,7 +36,7 @@ use Rattle.domain_rdata_text.specs.Texts.{all, is_nil, IsPlain, one, only_fields
 use Rattle.domain_rdata_text.specs.Times.{read_time}
 use Rattle.domain_rdata_text.specs.Ttls.{read_ttl}
 use Rattle.domain_rdata_text.specs.Values.{counted, is_tag, Val, val_in, val_octets, vals_octets, ValueAt, ValuesAt}
-use Rattle.domain_rdata_text.specs.Values.Val.{number8, number16, number32, ttl, time, rtype, ipv4, ipv6, name, string, tag, quoted, base64, counted16, counted32}
+use Rattle.domain_rdata_text.specs.Values.Val.{number8, number16, number32, ttl, time, rtype, ipv4, ipv6, name, string, tag, quoted, base64, counted16}
 use Rattle.domain_rdata_text.specs.Words.{WordAt}
 use Rattle.domain_rdata_text.proofs.Holding.{held_in}
 use Rattle.domain_rdata_text.proofs.Naming.{name_is}
@@ -108,7 +107,7 @@ tag_at m t x u is h =
     let parts : m ≡ first ++ (x ++ u) = is ∙ sym (append_assoc t (length x ∷ []) (x ++ u)) in
     let size = length-append t (length x ∷ []) in
     let range : slice_range m (length t + 1) (length (t ++ counted x)) ≡ x =
-        range_at m first x u (length t + 1) (length (t ++ counted x)) parts (omega (arith, size)) (omega (arith, size, length-append t (counted x))) in
+    range_at m first x u (length t + 1) (length (t ++ counted x)) parts (omega (arith, size)) (omega (arith, size, length-append t (counted x))) in
     (counted_at m t x u is, subst (λ (y : List ℕ). IsTag y) (sym range) (tag_is x h))
 
 strings_at : (m s : List ℕ) (ss : List (List ℕ)) (t : List ℕ) → m ≡ t ++ flat_map counted (s ∷ ss) → StringsAt m (length t)

@@ -1,5 +1,5 @@
 -- TTLs that entries state are below 2^31 (RFC 2181, 8).
-use Rattle.std.proofs.Common.{◌≡◌, ℕ, ◌+◌, ◌-◌, ◌*◌, ◌<◌, ◌==◌, ◌&&◌, Bool, true, false, cond, nat_lt, nat_le, List, [], ◌∷◌, length, codes, Option, Some, None, Result, Ok, Err, ap, subst, sym, refl, inl, inr, arith}
+use Rattle.std.proofs.Common.{◌≡◌, ℕ, ◌+◌, ◌-◌, ◌*◌, ◌<◌, ◌==◌, Bool, true, nat_lt, nat_le, List, [], ◌∷◌, codes, Option, Some, None, Result, Ok, Err, ap, subst, sym, refl, inl, inr, arith}
 use Rattle.std.proofs.lemmas.Bool.{and_parts, leb-true, ltb-true}
 use Rattle.domain_rdata_text.specs.Names.{read_name}
 use Rattle.domain_rdata_text.specs.Symbols.{is_digit}
@@ -14,12 +14,12 @@ use Rattle.domain_zone_text.specs.declared.head.Head.{Head}
 use Rattle.domain_zone_text.specs.declared.head.Stated.{Stated}
 use Rattle.domain_zone_text.specs.Directives.{directive, extra_word, include_line, is_directive, Line, origin_line, ttl_line, unless, with_name, with_ttl as with_default}
 use Rattle.domain_zone_text.specs.Directives.Line.{origin, default_ttl, include, include_at}
-use Rattle.domain_zone_text.specs.Heads.{after_two, first_stated, head, head_at, more_stated, no_type, stated, StatedWords, stated_words, take_stated, typed, with_class, with_ttl as more_ttl, with_word}
+use Rattle.domain_zone_text.specs.Heads.{first_stated, head, head_at, more_stated, no_type, stated, take_stated, typed, with_class, with_ttl as more_ttl, with_word}
 use Rattle.domain_zone_text.specs.Meanings.{first_of_two, front, of_last_owner, of_owner, RecordFront, Said, said_front, said_line, Setting, with_defaults, with_ttl, words_meaning}
 use Rattle.domain_zone_text.specs.Meanings.Said.{nothing, line, record_front}
 use Rattle.domain_zone_text.specs.Mnemonics.{class_named, is_word, rtype_named}
 use Rattle.domain_zone_text.specs.Outcome.{fault}
-use Rattle.domain_zone_text.specs.Reading.{is_indented, line_after, ReadsEntry, setting_after}
+use Rattle.domain_zone_text.specs.Reading.{is_indented, line_after, setting_after}
 use Rattle.domain_zone_text.proofs.Splitting.{chosen}
 
 -- ---- the TTL that a word is

@@ -70,3 +70,9 @@ IsWrittenToBeLoaded z apex class text =
 abbrev pub IsLoadedToBeReadable : List ℕ → List ℕ → ℕ → kept.Zone → Type 0
 IsLoadedToBeReadable text apex class made =
     IsAbsoluteWire apex → AreInRange class (zone_view made) → IsZoneOf text apex class made → IsReadableZone class (zone_view made)
+
+-- The text of a zone that was loaded is loaded as the same zone.
+abbrev pub IsLoadedAgain : List ℕ → List ℕ → List ℕ → ℕ → kept.Zone → Type 0
+IsLoadedAgain text again apex class made =
+    IsAbsoluteWire apex → AreInRange class (zone_view made) → IsZoneOf text apex class made → IsZoneText class (zone_view made) again
+    → IsLoadedAs again apex class (zone_view made)

@@ -2,7 +2,7 @@
 ghost use Rattle.std.specs.Prelude.{ℕ, List};
 ghost use Rattle.domain_zone.specs.declared.kept.Zone as kept;
 ghost use Rattle.domain_zone_laws.specs.Zone.{Zone};
-ghost use Rattle.domain_zone_write.specs.Laws.{IsLoadedToBeReadable, IsWrittenToBeLoaded};
+ghost use Rattle.domain_zone_write.specs.Laws.{IsLoadedAgain, IsLoadedToBeReadable, IsWrittenToBeLoaded};
 
 /// The call does nothing: its contract is the law. The text of a zone is loaded as this zone, with each record's TTL,
 /// and as no other. Where [`load`](domain_zone_load::load) doesn't return it, an allocation failed.
@@ -13,10 +13,22 @@ pub fn written_zone_law()
         → IsWrittenToBeLoaded z apex class text }
 {}
 
-/// The call does nothing: its contract is the law. A zone that [`load`](domain_zone_load::load) returns can be said by
-/// a text: each TTL is below 2^31, and the octets are at most 65,535, data of their type in which no name is
+/// The call does nothing: its contract is the law. A text can say each zone that [`load`](domain_zone_load::load)
+/// returns: TTLs are below 2^31, and the octets of each record are at most 65,535, data of its type in which no name is
 /// compressed. So [`written_zone_law`] holds of it.
+///
+/// Asked for are octets and numbers in their ranges, as those of a zone of the program are, and an apex in wire format
+/// (RFC 1035, 3.1).
 pub fn loaded_zone_law()
     ensures { (text apex : List ℕ) (class : ℕ) (made : kept.Zone)
         → IsLoadedToBeReadable text apex class made }
+{}
+
+/// The call does nothing: its contract is the law. A zone that is loaded, written and loaded again is the same zone.
+/// Where [`load`](domain_zone_load::load) doesn't return it the second time, an allocation failed.
+///
+/// Asked for is the same as in [`loaded_zone_law`].
+pub fn reloaded_zone_law()
+    ensures { (text again apex : List ℕ) (class : ℕ) (made : kept.Zone)
+        → IsLoadedAgain text again apex class made }
 {}
