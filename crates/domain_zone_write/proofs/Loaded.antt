@@ -1,6 +1,6 @@
 -- The records of a zone that is loaded can be said by a text.
 use Rattle.std.proofs.Common.{◌≡◌, ◌≢◌, ℕ, ◌+◌, ◌-◌, ◌*◌, ◌<◌, ◌≤◌, ◌==◌, Bool, true, false, cond, nat_le, nat_lt, min, unwrap_or, List, [], ◌∷◌, length, drop, get_or, Option, Some, None, Result, Ok, Err, refl, sym, ap, subst, inl, inr, ⊎_elim, arith}
-use Rattle.std.specs.List.{All, AllByRecursion, Contains, fold}
+use Rattle.std.specs.List.{All, AllByRecursion, AllZip, Contains, fold}
 use Rattle.std.proofs.lemmas.Bool.{eqb-true, leb-true, ltb-true}
 use Rattle.std.proofs.lemmas.List.Elements.{All-contains, All-map, Contains-append_cases, recursion_from_All}
 use Rattle.domain_descriptor.specs.Table.{known_fields}
@@ -29,6 +29,7 @@ use Rattle.domain_zone_load.specs.Loads.{HasEntries, IsZoneOf, records_of}
 use Rattle.domain_zone_load.specs.Takings.{first_setting, IsTaken, records_of_entry}
 use Rattle.domain_zone_text.proofs.Owning.{entry_names}
 use Rattle.domain_zone_text.proofs.Splitting.{chosen}
+use Rattle.domain_zone_text.specs.Lines.{Written}
 use Rattle.domain_zone_text.specs.Meanings.{RecordFront, Said, Setting}
 use Rattle.domain_zone_text.specs.Meanings.Said.{nothing, line, record_front}
 use Rattle.domain_zone_text.specs.Reading.{entry_said, EntrySaid, HasData, HasNames, IsFrontData, ReadsEntry}
@@ -41,7 +42,7 @@ use Rattle.domain_zone_write.proofs.Spelling.{fields_plain}
 use Rattle.domain_zone_write.proofs.Starting.{ends_last, known_end}
 use Rattle.domain_zone_write.proofs.Stating.{entry_small, HasSmallTtls, IsSmall, SaidSmall}
 use Rattle.domain_zone_write.specs.Laws.{AreInRange, IsLoadedAs, IsReadable, IsReadableZone}
-use Rattle.domain_zone_write.specs.Texts.{IsZoneText, record_of, zone_records}
+use Rattle.domain_zone_write.specs.Texts.{IsLineOf, IsZoneText, record_of, zone_records}
 
 -- ---- results
 abbrev AreSame : {A : Type 0} → Result A Fault → Result A Fault → Type 0
@@ -288,8 +289,29 @@ readable_zone text apex class made absolute range it =
       records = all_readable class z it.records fits it.holds w range;
     }
 
--- So its text is loaded as the same zone.
-pub loaded_again : (text again apex : List ℕ) (class : ℕ) (made : kept.Zone) → IsAbsoluteWire apex → AreInRange class (zone_view made) → IsZoneOf text apex class made
+-- ---- a zone that was written
+-- what holds of each record that has a line
+lined : (P : Inserted → Type 0) (class : ℕ) (rs : List Inserted) (ws : List Written) → ((r : Inserted) (w : Written) → IsLineOf class r w → P r) → AllZip (IsLineOf class) rs ws
+    → (r : Inserted) → Contains rs r → P r
+lined P class [] ws f lines r there = absurd (none_in r there)
+lined P class (x ∷ rs) [] f lines r there = absurd lines
+lined P class (x ∷ rs) (w ∷ ws) f lines r there = ⊎_elim
+    (λ (e : x ≡ r). subst P e (f x w lines.0))
+    (λ (h : Contains rs r). lined P class rs ws f lines.1 r h)
+    (in_cases x r rs there)
+
+in_range : (class : ℕ) (z : Zone) (text : List ℕ) → class < 65536 → IsZoneText class z text → AreInRange class z
+in_range class z text small lines = record {
+  small_class = small;
+  octets = all_from (λ (r : Inserted). AreOctets r.octets) (zone_records z)
+      (lined (λ (r : Inserted). AreOctets r.octets) class (zone_records z) lines.0 (λ r w line. line.octets) lines.1);
+  owners = all_from (λ (r : Inserted). AreOctets (wire r.owner)) (zone_records z)
+      (lined (λ (r : Inserted). AreOctets (wire r.owner)) class (zone_records z) lines.0 (λ r w line. line.owner_octets) lines.1);
+}
+
+-- Its text is loaded as the same zone.
+pub loaded_again : (text again apex : List ℕ) (class : ℕ) (made : kept.Zone) → IsAbsoluteWire apex → class < 65536 → IsZoneOf text apex class made
     → IsZoneText class (zone_view made) again → IsLoadedAs again apex class (zone_view made)
-loaded_again text again apex class made absolute range it lines =
-    loaded (zone_view made) apex class again (readable_zone text apex class made absolute range it) (sym it.apex_is) lines
+loaded_again text again apex class made absolute small it lines =
+    let z = zone_view made in
+    loaded z apex class again (readable_zone text apex class made absolute (in_range class z again small lines) it) (sym it.apex_is) lines

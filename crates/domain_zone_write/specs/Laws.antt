@@ -74,5 +74,5 @@ IsLoadedToBeReadable text apex class made =
 -- The text of a zone that was loaded is loaded as the same zone.
 abbrev pub IsLoadedAgain : List ℕ → List ℕ → List ℕ → ℕ → kept.Zone → Type 0
 IsLoadedAgain text again apex class made =
-    IsAbsoluteWire apex → AreInRange class (zone_view made) → IsZoneOf text apex class made → IsZoneText class (zone_view made) again
+    IsAbsoluteWire apex → class < 65536 → IsZoneOf text apex class made → IsZoneText class (zone_view made) again
     → IsLoadedAs again apex class (zone_view made)

@@ -14,11 +14,11 @@ pub fn written_zone_law()
 {}
 
 /// The call does nothing: its contract is the law. A text can say each zone that [`load`](domain_zone_load::load)
-/// returns: TTLs are below 2^31, and the octets of each record are at most 65,535, data of its type in which no name is
-/// compressed. So [`written_zone_law`] holds of it.
+/// returns. Its records are a zone in canonical order, and their TTLs are below 2^31. The octets of each record are at
+/// most 65,535, data of its type in which no name is compressed. So [`written_zone_law`] holds of it.
 ///
-/// Asked for are octets and numbers in their ranges, as those of a zone of the program are, and an apex in wire format
-/// (RFC 1035, 3.1).
+/// Asked for are an apex in wire format (RFC 1035, 3.1), and octets and numbers in their ranges, as they are in each
+/// zone of the program.
 pub fn loaded_zone_law()
     ensures { (text apex : List ℕ) (class : ℕ) (made : kept.Zone)
         → IsLoadedToBeReadable text apex class made }
@@ -27,7 +27,7 @@ pub fn loaded_zone_law()
 /// The call does nothing: its contract is the law. A zone that is loaded, written and loaded again is the same zone.
 /// Where [`load`](domain_zone_load::load) doesn't return it the second time, an allocation failed.
 ///
-/// Asked for is the same as in [`loaded_zone_law`].
+/// Asked for are a class below 2^16 and an apex in wire format (RFC 1035, 3.1).
 pub fn reloaded_zone_law()
     ensures { (text again apex : List ℕ) (class : ℕ) (made : kept.Zone)
         → IsLoadedAgain text again apex class made }
