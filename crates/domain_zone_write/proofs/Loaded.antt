@@ -5,7 +5,7 @@ use Rattle.std.proofs.lemmas.Bool.{eqb-true, leb-true, ltb-true}
 use Rattle.std.proofs.lemmas.List.Elements.{All-contains, All-map, Contains-append_cases, recursion_from_All}
 use Rattle.domain_descriptor.specs.Table.{known_fields}
 use Rattle.domain_descriptor.specs.declared.kind.FieldKind.{FieldKind}
-use Rattle.domain_label.specs.Wire.{IsAbsoluteName, IsAbsoluteWire, labels_in, wire}
+use Rattle.domain_label.specs.Wire.{IsAbsoluteName, IsAbsoluteWire, labels_in}
 use Rattle.domain_list.proofs.AncestorLaws.{tells_apart}
 use Rattle.domain_name.specs.Names.{name_labels}
 use Rattle.domain_rdata_text.specs.declared.error.Fault.{Fault}
@@ -240,15 +240,13 @@ module _ (class : ℕ) (z : Zone) (records : List Inserted) (fits : (r : Inserte
       let of_type = subst (λ (t : ℕ). (length it.0.octets ≤ 65535) × IsPlainOf t class it.0.octets) (sym it.2.1) (fit.1, fit.2) in
       subst (λ (x : List ℕ). (length x ≤ 65535) × IsPlainOf s.rtype class x) it.3 of_type
 
-  readable_of : (s : RRset) → Contains z.rrsets s → (d : List ℕ) → Contains s.rdata d → AreOctets d → AreOctets (wire s.owner) → IsReadable class (record_of s d)
-  readable_of s h d there low owner_low =
+  readable_of : (s : RRset) → Contains z.rrsets s → (d : List ℕ) → Contains s.rdata d → AreOctets d → IsReadable class (record_of s d)
+  readable_of s h d there low =
       let fit = data_fits s h d there in
       let kind = All-contains (λ (x : RRset). IsDataType x.rtype × (x.rtype ≢ NSEC3)) z.rrsets s w.types h in record {
         small_ttl = ttl_small s h d;
         short = fit.0;
         plain = fit.1 kind.1 low;
-        octets = low;
-        owner_octets = owner_low;
         small_class = range.small_class;
         small_rtype = small_type s.rtype kind.0;
       }
@@ -257,11 +255,8 @@ module _ (class : ℕ) (z : Zone) (records : List Inserted) (fits : (r : Inserte
   readable r h =
       let it = there_of z r h in
       let low = All-contains (λ (x : Inserted). AreOctets x.octets) (zone_records z) r range.octets h in
-      let owner_low = All-contains (λ (x : Inserted). AreOctets (wire x.owner)) (zone_records z) r range.owners h in
       subst (λ (x : Inserted). IsReadable class x) it.2.2
-      (readable_of it.0 it.1 it.2.0 it.2.1
-      (subst (λ (x : Inserted). AreOctets x.octets) (sym it.2.2) low)
-      (subst (λ (x : Inserted). AreOctets (wire x.owner)) (sym it.2.2) owner_low))
+      (readable_of it.0 it.1 it.2.0 it.2.1 (subst (λ (x : Inserted). AreOctets x.octets) (sym it.2.2) low))
 
   pub all_readable : All (IsReadable class) (zone_records z)
   all_readable = all_from (IsReadable class) (zone_records z) readable
@@ -305,8 +300,6 @@ in_range class z text small lines = record {
   small_class = small;
   octets = all_from (λ (r : Inserted). AreOctets r.octets) (zone_records z)
       (lined (λ (r : Inserted). AreOctets r.octets) class (zone_records z) lines.0 (λ r w line. line.octets) lines.1);
-  owners = all_from (λ (r : Inserted). AreOctets (wire r.owner)) (zone_records z)
-      (lined (λ (r : Inserted). AreOctets (wire r.owner)) class (zone_records z) lines.0 (λ r w line. line.owner_octets) lines.1);
 }
 
 -- Its text is loaded as the same zone.

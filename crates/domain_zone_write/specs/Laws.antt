@@ -3,7 +3,7 @@ use Rattle.std.specs.Prelude.{◌≡◌, ℕ, ◌<◌, ◌≤◌, List, length, 
 use Rattle.std.specs.List.{All}
 use Rattle.domain_descriptor.specs.Table.{known_fields}
 use Rattle.domain_header.specs.Values.{class_number}
-use Rattle.domain_label.specs.Wire.{IsAbsoluteWire, labels_in, wire}
+use Rattle.domain_label.specs.Wire.{IsAbsoluteWire, labels_in}
 use Rattle.domain_rdata_text.specs.Laws.{AreOctets}
 use Rattle.domain_rdata_text.specs.Texts.{IsPlain}
 use Rattle.domain_zone.specs.Building.{Inserted}
@@ -18,14 +18,11 @@ use Rattle.domain_zone_load.specs.Loads.{IsNoZone, IsZoneOf}
 use Rattle.domain_zone_write.specs.Texts.{IsZoneText, zone_records}
 
 -- A text can say the record: its TTL is below 2^31 (RFC 2181, 8), and its octets are at most 65,535, data of its type
--- in which no name is compressed. The rest is so of each record of the program: numbers and octets are in their
--- ranges.
+-- in which no name is compressed. The rest is so of each record of the program: numbers are in their ranges.
 pub record IsReadable (class : ℕ) (r : Inserted) : Type 0 where
   pub small_ttl : r.ttl < 2147483648
   pub short : length r.octets ≤ 65535
   pub plain : IsPlain (known_fields r.rtype class) r.octets
-  pub octets : AreOctets r.octets
-  pub owner_octets : AreOctets (wire r.owner)
   pub small_class : class < 65536
   pub small_rtype : r.rtype < 65536
 
@@ -35,11 +32,10 @@ pub record IsReadableZone (class : ℕ) (z : Zone) : Type 0 where
   pub canonical : IsCanonical z
   pub records : All (IsReadable class) (zone_records z)
 
--- Octets and numbers are in their ranges, as they are in each zone of the program.
+-- Octets and the class are in their ranges, as they are in each zone of the program.
 pub record AreInRange (class : ℕ) (z : Zone) : Type 0 where
   pub small_class : class < 65536
   pub octets : All (λ r. AreOctets r.octets) (zone_records z)
-  pub owners : All (λ r. AreOctets (wire r.owner)) (zone_records z)
 
 -- It is the zone z of this class: at its apex, with its records, each with its TTL, and no others.
 pub record IsSameZone (class : ℕ) (z : Zone) (made : kept.Zone) : Type 0 where
