@@ -60,6 +60,19 @@ fn put_canonical<'a, N: ToLabelIter<'a>>(name: &'a N, octets: &mut [u8; 255]) ->
     len
 }
 
+/// The hash of a name, without a limit of iterations.
+pub(crate) fn name_hash<'a, N: AbsoluteLabels<'a>>(
+    name: &'a N,
+    iterations: u16,
+    salt: &[u8],
+) -> [u8; HASH_LEN]
+    ensures { result ≡ nsec3_hash salt.now iterations (N.labels name.now) }
+{
+    let mut octets = [0; 255];
+    let len = put_canonical(name, &mut octets);
+    iterated(&octets[..len], iterations, salt)
+}
+
 /// Returns the hash of a name of any kind in NSEC3 records (RFC 5155, 5): SHA-1 over its wire format in lower case and
 /// the salt, and `iterations` times more over the last hash and the salt.
 ///
@@ -83,7 +96,5 @@ pub fn hash_name<'a, N: AbsoluteLabels<'a>>(
     if iterations > limit {
         return Err(TooManyIterations);
     }
-    let mut octets = [0; 255];
-    let len = put_canonical(name, &mut octets);
-    Ok(iterated(&octets[..len], iterations, salt))
+    Ok(name_hash(name, iterations, salt))
 }
