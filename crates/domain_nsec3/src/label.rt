@@ -79,7 +79,7 @@ fn octets_of(a: u8, b: u8, c: u8, d: u8, e: u8, f: u8, g: u8, h: u8) -> [u8; 5]
 }
 
 /// Returns the hash that a label has in base32hex, in upper or lower case. The first label of the owner of an NSEC3
-/// record has that record's hash (RFC 5155, 3). `None` exactly where no hash has this label: unless it is 32 digits.
+/// record has that record's hash (RFC 5155, 3). `None` exactly where no hash has this label: it isn't 32 digits.
 pub fn hash_of_label(label: &[u8]) -> Option<[u8; HASH_LEN]>
     ensures some { IfSome result (IsLabelOf label.now) }
     ensures none { IfNone result ((hash : List ℕ) → IsHash hash → IsLabelOf label.now hash → ⊥) }
