@@ -27,7 +27,7 @@ assert.equal(hosts.get(dns.key(from("example.com"))), undefined);
 assert.equal(dns.key(from("\\255")).charCodeAt(1), 255);
 
 // A response: the name a, answered by a CNAME record whose data are a pointer to it, and an SOA record.
-const octets = (text) => Uint8Array.from(text.match(/../g), (digits) => parseInt(digits, 16));
+const octets = (text) => Uint8Array.from(text.match(/../g) ?? [], (digits) => parseInt(digits, 16));
 const message = octets(
     "000781800001000100010000" + "016100" + "00010001" + "c00c000500010000003c0002c00c" +
     "00000600010000000000" + "1b" + "016200" + "0163c02c" + "00".repeat(20),
