@@ -385,7 +385,7 @@ export class DnsNames {
         return { infoCode: this.#number16(result), text };
     }
 
-    // The option that a call writes, which has at most so many octets of data.
+    // The option that a call writes, with at most this many octets of data.
     #option(call, most, parts, values) {
         const [room, ...slices] = this.#begin(OPTION_HEAD + most, ...parts);
         const [length] = this.#results(1);

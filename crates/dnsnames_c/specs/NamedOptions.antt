@@ -12,8 +12,8 @@ use Rattle.domain_message_builder.specs.Opt.{option_octets}
 use Rattle.domain_buffer.specs.Puts.{PutsAt}
 use Rattle.dnsnames_c.specs.Status.{refusal_number}
 
--- Why an option of so many octets of data isn't written: there are more octets of options than the buffer has (20); or
--- with it there would be more than the buffer has, or than 65,535, the most that a record has (8).
+-- Why an option with `data_len` octets of data isn't written. The options so far are said to have more octets than the
+-- buffer (20). Or with it they would have more than the buffer, or more than the 65,535 of a record (8).
 abbrev pub HasNoRoomFor : ℕ → ℕ → List ℕ → ℕ → Type 0
 HasNoRoomFor data_len status o len =
     ((status ≡ 20) × (length o < len))
@@ -52,8 +52,8 @@ AddsError info_code text status o len o' len' =
     (IsUtf8 text × AddsOption 15 (to_be_bytes w16 info_code ++ text) status o len o' len')
     ⊎ ((status ≡ 12) × (IsUtf8 text → ⊥) × (o' ≡ o) × (len' ≡ len))
 
--- The octets of an option are the cookie of a client, and after its 8 octets so many of a server's (0); or they are no
--- cookies, with the number of why, and nothing changed.
+-- The octets of an option are the cookie of a client, 8 octets, and that of a server, whose length is given (0). Or they
+-- are no cookies, the status says why, and nothing changed.
 abbrev pub ReadsCookies : List ℕ → ℕ → ℕ → ℕ → Type 0
 ReadsCookies octets status old new =
     ((status ≡ 0) × (length octets ≡ 8 + new) × IsServerLen new)

@@ -5,7 +5,7 @@ use Rattle.std.specs.List.{AllByRecursion}
 use Rattle.domain_field_text.specs.Base32.{base32hex_digit, base32hex_text}
 use Rattle.domain_label.specs.Lowercase.{lowercase}
 
--- So many octets, as SHA-1 makes them.
+-- These are 20 octets, as SHA-1 makes them.
 abbrev pub IsHash : List ℕ → Type 0
 IsHash h = (length h ≡ 20) × AllByRecursion (λ o. o < 256) h
 

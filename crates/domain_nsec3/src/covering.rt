@@ -27,8 +27,8 @@ pub fn matches(owner: &[u8], hash: &[u8]) -> bool
 /// The `next` of the last record of a zone is the first hash, which isn't after `owner`. That record covers each hash
 /// after its own, and each before the first. A record alone in its zone covers each hash except its own.
 ///
-/// A name whose hash is covered has no records of its own, if the record is of the name's zone, and the hash was made
-/// with the record's salt and number of iterations. With Opt-Out it can be an unsigned delegation (RFC 5155, 6).
+/// The record must be of the name's zone, and the hash made with its salt and its number of iterations. A name whose
+/// hash is covered then has no records of its own. With Opt-Out it can be an unsigned delegation (RFC 5155, 6).
 pub fn covers(owner: &[u8], next: &[u8], hash: &[u8]) -> bool
     ensures { IsTrue result ↔ CoversHash owner.now next.now hash.now }
 {

@@ -240,7 +240,7 @@ fn record<'m>(owner: &[u8], next: &'m [u8; 20]) -> HashedRecord<'m> {
     }
 }
 
-/// Whether records prove that the closest encloser of a name has so many octets on the wire, and by which of them.
+/// Whether records prove that the closest encloser of a name has this length on the wire, and by which of them.
 fn proves(
     records: &[HashedRecord<'_>],
     name: &[u8],
