@@ -574,6 +574,10 @@ dnsnames_status dnsnames_data_option(const uint8_t *message, size_t message_len,
 
 /* ---- EDNS options by name ---- */
 
+/* How many octets the cookie of a client has, and the most that one of a server has. */
+#define DNSNAMES_CLIENT_COOKIE_LEN 8
+#define DNSNAMES_MAX_SERVER_COOKIE 32
+
 /* The codes of some options, by the numbers that IANA registered them under. */
 enum {
     DNSNAMES_OPTION_NSID = 3,            /* RFC 5001: the identifier of a name server, any octets; none in a query */
@@ -583,10 +587,6 @@ enum {
     DNSNAMES_OPTION_PADDING = 12,        /* RFC 7830: zeros */
     DNSNAMES_OPTION_EXTENDED_ERROR = 15  /* RFC 8914 */
 };
-
-/* How many octets the cookie of a client has, and the most that one of a server has. */
-#define DNSNAMES_CLIENT_COOKIE_LEN 8
-#define DNSNAMES_MAX_SERVER_COOKIE 32
 
 /* These four write an option after the first *options_len octets of a buffer, and add its size to *options_len:
  * dnsnames_builder_opt takes these octets. *options_len is 0 before the first option.
@@ -608,10 +608,10 @@ dnsnames_status dnsnames_append_option(uint8_t *options, size_t capacity, size_t
                                        const uint8_t *data, size_t data_len);
 
 /* Writes the cookie of a client, which the program draws at random, and after it that of a server, if server_len
- * isn't 0 (RFC 7873, 4). BAD_FORM where the server's has 1 to 7 octets, or more than 32. */
-dnsnames_status dnsnames_append_cookie(uint8_t *options, size_t capacity, size_t *options_len,
-                                       const uint8_t client[DNSNAMES_CLIENT_COOKIE_LEN], const uint8_t *server,
-                                       size_t server_len);
+ * isn't 0 (RFC 7873, 4). The client's has DNSNAMES_CLIENT_COOKIE_LEN octets. BAD_FORM where the server's has 1 to 7
+ * octets, or more than 32. */
+dnsnames_status dnsnames_append_cookie(uint8_t *options, size_t capacity, size_t *options_len, const uint8_t *client,
+                                       const uint8_t *server, size_t server_len);
 
 /* Writes the subnet of a client (RFC 7871, 6): the family of its address (1 IPv4, 2 IPv6, 0 where no bit of it is
  * encoded), how many bits of it are encoded, for how many an answer is meant (0 in a query), and these bits, in as

@@ -394,9 +394,8 @@ dnsnames_status dnsnames_append_option(uint8_t *options, size_t capacity, size_t
                                                  data_len));
 }
 
-dnsnames_status dnsnames_append_cookie(uint8_t *options, size_t capacity, size_t *options_len,
-                                       const uint8_t client[DNSNAMES_CLIENT_COOKIE_LEN], const uint8_t *server,
-                                       size_t server_len)
+dnsnames_status dnsnames_append_cookie(uint8_t *options, size_t capacity, size_t *options_len, const uint8_t *client,
+                                       const uint8_t *server, size_t server_len)
 {
     return GUARDED(no_options(options, capacity, options_len) || client == NULL || is_null(server, server_len),
                    proved_dnsnames_append_cookie(room_at(options), capacity, options_len, client, octets_at(server),
