@@ -177,12 +177,14 @@ def instructions(room, count, word):
     out = room.path("callgrind")
     command = ["valgrind", "--tool=callgrind", "--instr-atstart=no", "--collect-atstart=no"]
     run([*command, f"--callgrind-out-file={out}", *large(room, count, COUNTED if word == "answer" else 0, word)])
-    return int(re.search(r"^(?:summary|totals): (\d+)", pathlib.Path(out).read_text(), re.M)[1])
+    return int(re.search(r"^totals: (\d+)", pathlib.Path(out).read_text(), re.M)[1])
 
 
 def measure_instructions(room, count):
+    """Counts the instructions of answers, and of the smallest load: the others take callgrind too long."""
     if has_library(room) and shutil.which("valgrind"):
-        numbers = {it: instructions(room, count, it) for it in ("answer", "load")}
+        parts = ["answer"] + ["load"] * (count == min(room.words.counts))
+        numbers = {it: instructions(room, count, it) for it in parts}
         room.keep("instructions", count, "library", numbers | {"answers": COUNTED})
 
 

@@ -51,7 +51,7 @@ ANSWERS = [
     "[large.c](large.c) calls `dnsnames_zone_answer` {answers:,} times, each time with another query and the same "
     "buffer. A call reads the query, looks the answer up, and writes the whole message with compressed names, of "
     "{octets} octets on average. No socket is part of it. Instructions are those of the calls alone, as callgrind "
-    "counts them over {counted:,} answers and one load.",
+    "counts them over {counted:,} answers, and over the load of the smaller zone.",
 ]
 NOTHING_BESIDE = [
     "No other library here has a call for this. libknot has no public call that looks a name up in a zone: that is a "
@@ -72,12 +72,12 @@ SERVERS = {
 SERVED = [
     "'Answers a second' are by the clock, for client and server together. The other columns are of the server alone: "
     "microseconds of the processor for an answer; the part of them that is in its own code and libraries, and not in "
-    "the system; and its memory after the answers, in millions of octets, where pages that its processes share count "
-    "once. The system counts these times in ticks, so they are exact to {tick} microseconds.",
-    "Of the time by the clock, most is spent on sockets, by the client, too, and on waiting for other work. `serve` "
-    "makes three system calls for each answer: `poll`, `recvfrom` and `sendto`. NSD and Knot DNS receive and send "
-    "several datagrams by one call. 'Own code' is the column that comes closest to a comparison of the work on zones. "
-    "But what the servers do there is more than `serve` does: limits, statistics, access lists, and in BIND its "
+    "the system, as the system samples it at each of its ticks; and its memory after the answers, in millions of "
+    "octets, where pages that its processes share count once. The client uses {client} microseconds for each answer.",
+    "Sockets take most of it: of the processor time of client and `serve` together, {share} in 100 are outside the "
+    "server's own code. `serve` makes three system calls for each answer: `poll`, `recvfrom` and `sendto`. NSD and "
+    "Knot DNS receive and send several datagrams by one call. 'Own code' comes closest to a comparison of the work on "
+    "zones. But these servers do more there than `serve` does: limits, statistics and access lists, and BIND has its "
     "event loop.",
 ]
 
@@ -158,9 +158,10 @@ def loading(results, counts):
 def answer_row(results, count):
     it, counted = (results[part][str(count)]["library"] for part in ("answers", "instructions"))
     each = it["answer-processor"] / it["answers"]
-    instructions = [counted["answer"] / counted["answers"], counted["load"] / count]
     times = [f"{1 / each:,.0f}", f"{each * 1e6:.2f}", f"{1e6 * it['answer-clock'] / it['answers']:.2f}"]
-    return [f"{count:,}", *times, *(f"{number:,.0f}" for number in instructions), f"{it['free-processor']:.2f}"]
+    loaded = f"{counted['load'] / count:,.0f}" if "load" in counted else ""
+    answered = f"{counted['answer'] / counted['answers']:,.0f}"
+    return [f"{count:,}", *times, answered, loaded, f"{it['free-processor']:.2f}"]
 
 
 def answering(results, counts):
@@ -178,10 +179,21 @@ def server_cells(it, _):
     return [f"{it['answers'] / it['clock']:,.0f}", f"{it['both']:.1f}", f"{it['user']:.1f}", megabytes(it["memory"])]
 
 
+def client_use(it):
+    """Microseconds of the processor for an answer."""
+    return 1e6 * it["client-processor"] / it["answers"]
+
+
 def serving(results, counts):
-    one = next(iter(results["servers"][str(counts[0])].values()))
-    tick = 1e6 / os.sysconf("SC_CLK_TCK") / one["answers"]
-    said = {"asked": one["answers"], "window": one["window"], "tick": f"{tick:.1f}"}
+    servers = [it for count in counts for it in results["servers"][str(count)].values()]
+    ours = [results["servers"][str(count)]["library"] for count in counts]
+    own, all_used = sum(it["user"] for it in ours), sum(it["both"] + client_use(it) for it in ours)
+    said = {
+        "asked": ours[0]["answers"],
+        "window": ours[0]["window"],
+        "client": f"{min(map(client_use, servers)):.1f} to {max(map(client_use, servers)):.1f}",
+        "share": round(100 * (1 - own / all_used)),
+    }
     yield from ["", "## Answers over UDP"]
     yield from paragraphs(SERVING, said)
     heads = heads_of("Server", counts, ["answers a second", "processor, µs", "own code, µs", "memory, MB"])
