@@ -7,6 +7,8 @@ import re
 import subprocess
 import textwrap
 
+import large_zones
+
 INTRO = [
     "`evidence/zones/large.py` loads zones of {counts} records by the library of zones for C "
     "([dnsnames_zone.h](../../bindings/zone/dnsnames_zone.h)) and by other programs, and asks them the same "
@@ -19,9 +21,15 @@ INTRO = [
     "A, AAAA and an alias; names with MX and TXT; zone cuts with three NS records and glue; and names of up to eight "
     "labels, with empty non-terminals between. Their names are in no order, and owners and names in data are relative "
     "to many `$ORIGIN`s.",
-    "It draws the questions from a fixed seed: {kinds}. Every other query has an OPT record. A run fails where a "
-    "program prints another number of records, or answers by other kinds of responses.",
+    "It draws the questions from a fixed seed. Of 100, {kinds}. Every other query has an OPT record. A run fails "
+    "where a program prints another number of records, or answers by other kinds of responses.",
 ]
+KINDS = {
+    large_zones.FOUND: "ask for records that exist, some of them through an alias",
+    large_zones.EMPTY: "for a type that a name doesn't own",
+    large_zones.NONE: "for a name that doesn't exist",
+    large_zones.REFERRAL: "for a name at or below a cut",
+}
 LOADING = [
     "'Peak' is the most memory that the process had, in millions of octets, as `/usr/bin/time` reports it, and 'a "
     "record' is that in octets by the number of records. The programs do different things with a zone:",
@@ -74,6 +82,8 @@ SERVED = [
     "microseconds of the processor for an answer; the part of them that is in its own code and libraries, and not in "
     "the system, as the system samples it at each of its ticks; and its memory after the answers, in millions of "
     "octets, where pages that its processes share count once. The client uses {client} microseconds for each answer.",
+]
+SHARE = [
     "Sockets take most of it: of the processor time of client and `serve` together, {share} in 100 are outside the "
     "server's own code. `serve` makes three system calls for each answer: `poll`, `recvfrom` and `sendto`. NSD and "
     "Knot DNS receive and send several datagrams by one call. 'Own code' comes closest to a comparison of the work on "
@@ -137,7 +147,7 @@ def load_cells(it, count):
 
 def kept(measured, counts):
     """What malloc had given after a load."""
-    ours = [(it, measured[str(it)]["library"]["kept"]) for it in counts if "library" in measured[str(it)]]
+    ours = [(it, measured[str(it)]["library"]["kept"]) for it in counts]
     said = (f"{octets / 1e6:,.1f} MB of {it:,} records, {octets / it:,.0f} octets each" for it, octets in ours)
     return f"The zone alone keeps {', and '.join(said)}."
 
@@ -150,9 +160,10 @@ def loading(results, counts):
     heads = heads_of("Program", counts, ["clock, s", "processor, s", "peak, MB", "a record"])
     yield from table(heads, rows_of(measured, counts, titles, load_cells))
     yield ""
+    said = {"kept": kept(measured, counts)} if "library" in measured[str(counts[0])] else {}
     for name, (title, does) in PROGRAMS.items():
         if name in measured[str(counts[0])]:
-            yield from wrapped(f"{title.split(' of ')[0]}: {does.format(kept=kept(measured, counts))}", "- ")
+            yield from wrapped(f"{title.split(' of ')[0]}: {does.format_map(said)}", "- ")
 
 
 def answer_row(results, count):
@@ -184,21 +195,26 @@ def client_use(it):
     return 1e6 * it["client-processor"] / it["answers"]
 
 
+def share_of_sockets(ours):
+    """The part of the processor time of client and server that isn't in the server's own code, in 100."""
+    return round(100 * (1 - sum(it["user"] for it in ours) / sum(it["both"] + client_use(it) for it in ours)))
+
+
 def serving(results, counts):
     servers = [it for count in counts for it in results["servers"][str(count)].values()]
-    ours = [results["servers"][str(count)]["library"] for count in counts]
-    own, all_used = sum(it["user"] for it in ours), sum(it["both"] + client_use(it) for it in ours)
+    ours = [results["servers"][str(it)]["library"] for it in counts if "library" in results["servers"][str(it)]]
     said = {
-        "asked": ours[0]["answers"],
-        "window": ours[0]["window"],
+        "asked": servers[0]["answers"],
+        "window": servers[0]["window"],
         "client": f"{min(map(client_use, servers)):.1f} to {max(map(client_use, servers)):.1f}",
-        "share": round(100 * (1 - own / all_used)),
     }
     yield from ["", "## Answers over UDP"]
     yield from paragraphs(SERVING, said)
     heads = heads_of("Server", counts, ["answers a second", "processor, µs", "own code, µs", "memory, MB"])
     yield from table(heads, rows_of(results["servers"], counts, SERVERS, server_cells))
     yield from paragraphs(SERVED, said)
+    if ours:
+        yield from paragraphs(SHARE, {"share": share_of_sockets(ours)})
 
 
 def model():
@@ -208,7 +224,7 @@ def model():
 
 def said_of(results, counts):
     asked = list(results["inputs"][str(counts[-1])]["comes"].values())[-1]
-    total = sum(asked.values())
+    kinds = [f"{round(100 * asked[it] / sum(asked.values()))} {words}" for it, words in KINDS.items()]
     return {
         "counts": " and ".join(f"{it:,}" for it in counts),
         "day": datetime.date.today(),
@@ -218,13 +234,15 @@ def said_of(results, counts):
         "high": f"{max(results['loads']):.0f}",
         "rounds": results["rounds"],
         "texts": " and ".join(f"{results['inputs'][str(it)]['octets'] / 1e6:.1f}" for it in counts),
-        "kinds": ", ".join(f"{round(100 * number / total)} in 100 are '{it}'" for it, number in asked.items()),
+        "kinds": f"{', '.join(kinds[:-1])}, and {kinds[-1]}",
     }
 
 
 def page(results, counts):
     yield "# Large zones beside other programs"
     yield from paragraphs(INTRO, said_of(results, counts))
+    if "library" not in results["load"][str(counts[0])]:
+        yield from ["", "The archive of the library wasn't built in this run, so the library is left out."]
     for part, make in (("load", loading), ("answers", answering), ("servers", serving)):
         if part in results:
             yield from make(results, counts)
