@@ -309,7 +309,7 @@ def main():
     parts = [it for it in words.parts if it in PARTS]
     if parts:
         build(room)
-        room.results["rounds"] = min(words.rounds, room.results.get("rounds", words.rounds))
+        room.results["rounds"] = sorted({*room.results.get("rounds", []), words.rounds})
     for part in parts:
         for count in words.counts:
             PARTS[part](room, count)

@@ -14,9 +14,10 @@ INTRO = [
     "([dnsnames_zone.h](../../bindings/zone/dnsnames_zone.h)) and by other programs, and asks them the same "
     "questions. It wrote this page on {day}, on a machine of {processors} processors ({model}).",
     "All of this ran on one processor, one after another, while other work kept all {processors} busy: the load "
-    "average was {low} to {high}. So times by the clock are a multiple of what a quiet machine needs, and vary. "
-    "Processor times leave the waiting out, but the other work takes room in the caches. Each figure is the least of "
-    "{rounds} rounds, and a difference of a fifth says nothing.",
+    "average was {low} to {high}, and the programs didn't all meet the same load. So times by the clock are a "
+    "multiple of what a quiet machine needs, and vary. Processor times leave the waiting out, but the other work "
+    "takes room in the caches, which zones of this size need. Each figure is the least of {rounds} rounds, and a "
+    "difference of a third says nothing.",
     "[large_zones.py](large_zones.py) makes the zones, always the same, of {texts} MB of text. They have hosts with "
     "A, AAAA and an alias; names with MX and TXT; zone cuts with three NS records and glue; and names of up to eight "
     "labels, with empty non-terminals between. Their names are in no order, and owners and names in data are relative "
@@ -57,9 +58,9 @@ PROGRAMS = {
 }
 ANSWERS = [
     "[large.c](large.c) calls `dnsnames_zone_answer` {answers:,} times, each time with another query and the same "
-    "buffer. A call reads the query, looks the answer up, and writes the whole message with compressed names, of "
+    "buffer. A call reads the query, looks the answer up, and writes the whole message with compressed owners, of "
     "{octets} octets on average. No socket is part of it. Instructions are those of the calls alone, as callgrind "
-    "counts them over {counted:,} answers, and over the load of the smaller zone.",
+    "counts them over the first 10,000 of these answers, and over a load of the smaller zone.",
 ]
 NOTHING_BESIDE = [
     "No other library here has a call for this. libknot has no public call that looks a name up in a zone: that is a "
@@ -84,11 +85,11 @@ SERVED = [
     "octets, where pages that its processes share count once. The client uses {client} microseconds for each answer.",
 ]
 SHARE = [
-    "Sockets take most of it: of the processor time of client and `serve` together, {share} in 100 are outside the "
-    "server's own code. `serve` makes three system calls for each answer: `poll`, `recvfrom` and `sendto`. NSD and "
-    "Knot DNS receive and send several datagrams by one call. 'Own code' comes closest to a comparison of the work on "
-    "zones. But these servers do more there than `serve` does: limits, statistics and access lists, and BIND has its "
-    "event loop.",
+    "Of the processor time of client and `serve` together, {share} in 100 are outside the server's own code: sockets. "
+    "`serve` makes three system calls for each answer: `poll`, `recvfrom` and `sendto`. NSD and Knot DNS receive and "
+    "send several datagrams by one call. 'Own code' comes closest to a comparison of the work on zones. But these "
+    "servers do more there than `serve` does: limits, statistics and access lists, and BIND has its event loop. They "
+    "also compress names in data, which `serve` doesn't.",
 ]
 
 
@@ -167,17 +168,18 @@ def loading(results, counts):
 
 
 def answer_row(results, count):
-    it, counted = (results[part][str(count)]["library"] for part in ("answers", "instructions"))
+    it = results["answers"][str(count)]["library"]
+    counted = results.get("instructions", {}).get(str(count), {}).get("library", {})
     each = it["answer-processor"] / it["answers"]
     times = [f"{1 / each:,.0f}", f"{each * 1e6:.2f}", f"{1e6 * it['answer-clock'] / it['answers']:.2f}"]
     loaded = f"{counted['load'] / count:,.0f}" if "load" in counted else ""
-    answered = f"{counted['answer'] / counted['answers']:,.0f}"
+    answered = f"{counted['answer'] / counted['answers']:,.0f}" if "answer" in counted else ""
     return [f"{count:,}", *times, answered, loaded, f"{it['free-processor']:.2f}"]
 
 
 def answering(results, counts):
-    one, counted = (results[part][str(counts[-1])]["library"] for part in ("answers", "instructions"))
-    said = {"answers": one["answers"], "octets": round(one["octets"] / one["answers"]), "counted": counted["answers"]}
+    one = results["answers"][str(counts[-1])]["library"]
+    said = {"answers": one["answers"], "octets": round(one["octets"] / one["answers"])}
     yield from ["", "## Answers by a call"]
     yield from paragraphs(ANSWERS, said)
     heads = ["Records", "answers a second of the processor", "processor, µs", "clock, µs", "instructions an answer"]
@@ -232,7 +234,7 @@ def said_of(results, counts):
         "model": model(),
         "low": f"{min(results['loads']):.0f}",
         "high": f"{max(results['loads']):.0f}",
-        "rounds": results["rounds"],
+        "rounds": " to ".join(dict.fromkeys(str(it(results["rounds"])) for it in (min, max))),
         "texts": " and ".join(f"{results['inputs'][str(it)]['octets'] / 1e6:.1f}" for it in counts),
         "kinds": f"{', '.join(kinds[:-1])}, and {kinds[-1]}",
     }
