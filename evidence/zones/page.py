@@ -54,8 +54,9 @@ LIMITS = [
     "Zones with NSEC3 records: `dnszone` refuses that type "
     "([domain_zone](../../crates/domain_zone/README.md#faults)). The signed zones have NSEC.",
     "Wildcards that own NS or DNAME, which `dnszone` refuses (RFC 4592, 4.2 and 4.4).",
-    "Text that one of the four refuses: relative names in data and TTLs with units in an SOA (`dnszone`), the end of "
-    "a line between quotes (BIND), a name that ends in `\\\\` (NSD).",
+    "Text that one of the four refuses: `$INCLUDE`, mnemonics of algorithms, and fields without a text of their own, "
+    "as those of SVCB and LOC (`dnszone`, by [domain_rdata_text](../../crates/domain_rdata_text/README.md#what-is-read)"
+    "), the end of a line between quotes (BIND), a name that ends in `\\\\` (NSD).",
     "Queries that aren't a question of class IN to a zone: what comes of these is in "
     "[conformance_zones](../../crates/conformance_zones/README.md).",
     "The order of records and RRsets, and which names are compressed.",
