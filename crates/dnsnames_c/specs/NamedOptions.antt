@@ -52,8 +52,8 @@ AddsError info_code text status o len o' len' =
     (IsUtf8 text × AddsOption 15 (to_be_bytes w16 info_code ++ text) status o len o' len')
     ⊎ ((status ≡ 12) × (IsUtf8 text → ⊥) × (o' ≡ o) × (len' ≡ len))
 
--- The octets of an option are the cookie of a client, 8 octets, and that of a server, whose length is given (0). Or they
--- are no cookies, the status says why, and nothing changed.
+-- The octets of an option are the cookie of a client, 8 octets, and that of a server, whose length is given (0). Or
+-- they are no cookies, the status says why, and nothing changed.
 abbrev pub ReadsCookies : List ℕ → ℕ → ℕ → ℕ → Type 0
 ReadsCookies octets status old new =
     ((status ≡ 0) × (length octets ≡ 8 + new) × IsServerLen new)

@@ -183,8 +183,8 @@ pub extern "C" fn dnsnames_cookie(option: &[u8], server_len: &mut usize) -> u32
 /// it are encoded, and for how many an answer is meant. The octets after the first four are the address.
 ///
 /// Returns 1 where there are fewer than four octets. Else it returns 28 where the family isn't 0, 1 or 2, or where its
-/// addresses have fewer bits than are encoded. Else it returns 1 where the address has fewer octets than the bits take,
-/// and 28 where it has more, or where a bit after them isn't zero. Nothing is then changed.
+/// addresses have fewer bits than are encoded. Else it returns 1 where the address has fewer octets than the bits
+/// take, and 28 where it has more, or where a bit after them isn't zero. Nothing is then changed.
 #[unsafe(no_mangle)]
 pub extern "C" fn dnsnames_client_subnet(
     option: &[u8],

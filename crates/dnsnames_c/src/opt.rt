@@ -8,8 +8,8 @@ use domain_message::EdnsOption;
 
 /// Gives what an OPT record states by its class and its TTL (RFC 6891, 6.1.2 and 6.1.3). The first is how many octets
 /// its sender takes in a message over UDP, or 512 where it states fewer (6.2.3). The second is the response code of
-/// twelve bits, of which the flags of the message's header have the lower four. The others are the version of EDNS, the
-/// sixteen flags of EDNS, and DO among these (RFC 3225). Returns 21 if the type isn't OPT: nothing is changed.
+/// twelve bits, of which the flags of the message's header have the lower four. The others are the version of EDNS,
+/// the sixteen flags of EDNS, and DO among these (RFC 3225). Returns 21 if the type isn't OPT: nothing is changed.
 #[unsafe(no_mangle)]
 pub extern "C" fn dnsnames_opt(
     rtype: u16,

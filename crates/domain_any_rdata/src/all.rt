@@ -76,8 +76,8 @@ impl<'m> AllRecordData<'m> {
         self.octets
     }
 
-    /// Returns a parser of the message that stands at the data and ends with it. By it a type of its own reads the data:
-    /// `Mx::parse_rdata(data.rtype(), &mut data.parser())`.
+    /// Returns a parser of the message that stands at the data and ends with it. A type of its own reads the data by
+    /// it: `Mx::parse_rdata(data.rtype(), &mut data.parser())`.
     pub fn parser(&self) -> Parser<'m>
         ensures message { message result ≡ rdata_message (data_of self.now) }
         ensures offset { position result ≡ rdata_begin (data_of self.now) }

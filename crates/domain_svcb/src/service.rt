@@ -183,8 +183,8 @@ impl<const TYPE: u16, F: DataField> CanonicalRecordData for ServiceData<TYPE, F>
 
 /// Data is equal exactly where the octets of the canonical forms are equal.
 ///
-/// So the target keeps its case in SVCB and HTTPS: targets that differ in case alone are different (RFC 3597, 6). Names
-/// are compared ignoring ASCII case only where `TYPE` is one of the types of RFC 4034, 6.2.
+/// So the target keeps its case in SVCB and HTTPS: targets that differ in case alone are different (RFC 3597, 6).
+/// Names are compared ignoring ASCII case only where `TYPE` is one of the types of RFC 4034, 6.2.
 impl<const TYPE: u16, F: OrderedLast> PartialEq for ServiceData<TYPE, F> {
     ghost eq = { on (service_key F.uncompressed) (pointwise ◌==◌) };
 
