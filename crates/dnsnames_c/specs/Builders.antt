@@ -106,6 +106,7 @@ opt_with size rcode_ext version dnssec_ok options =
       rcode_ext = rcode_ext;
       version = version;
       dnssec_ok = is_set dnssec_ok;
+      compact_ok = false;
       options = options;
     }
 

@@ -77,7 +77,7 @@ padding_is block len following n least o is so_many = is ∙ ap (to_block block)
 -- how many octets it has
 pub record_size : (o : Opt) → length (opt_record_octets o) ≡ 11 + length o.options
 record_size o =
-    let head = before_length 41 o.udp_payload_size (packed_opt_ttl o.rcode_ext o.version o.dnssec_ok) in
+    let head = before_length 41 o.udp_payload_size (packed_opt_ttl o.rcode_ext o.version o.dnssec_ok o.compact_ok) in
     let len = to_be_bytes w16 (length o.options) in
     omega (arith, length-append head (len ++ o.options), length-append len o.options)
 
@@ -93,12 +93,12 @@ padded_whole block following o old new some is =
 -- There is no room for it in the target then, or there are too many records. It can't be for the limit.
 pub padded_lacks : {E : Type 0} (Over : Type 0) (e : PushError E) (c : Bool) (o : Opt) (s : State) (capacity : ℕ) → length o.options ≤ 65535 → length s.octets + 11 + length o.options + s.reserved ≤ s.limit
     → RecordRefused c Additional (opt_head o) (OnlyOptions o) s capacity e → Refused (capacity < length s.octets + 11 + length o.options) ⊥ (additional_count s.counts ≡ 65535) Over ⊥ e
-padded_lacks Over (Append e) c o s capacity few fits why = no_room_of c o s.octets o.udp_payload_size (packed_opt_ttl o.rcode_ext o.version o.dnssec_ok) capacity why
+padded_lacks Over (Append e) c o s capacity few fits why = no_room_of c o s.octets o.udp_payload_size (packed_opt_ttl o.rcode_ext o.version o.dnssec_ok o.compact_ok) capacity why
 padded_lacks Over (Long e) c o s capacity few fits why = absurd (omega (arith, few, why.2.many, ap length why.2.allowed))
 padded_lacks Over Count c o s capacity few fits why = why
 padded_lacks Over Limit c o s capacity few fits why =
     let it = why.allowed in
-    let head = before_length 41 o.udp_payload_size (packed_opt_ttl o.rcode_ext o.version o.dnssec_ok) in
+    let head = before_length 41 o.udp_payload_size (packed_opt_ttl o.rcode_ext o.version o.dnssec_ok o.compact_ok) in
     let len = to_be_bytes w16 (length it.rdata) in
     absurd (omega (arith, why.full, fits, it.name_allowed.read.short, ap length it.all, length-append it.named (head ++ (len ++ it.rdata)), length-append head (len ++ it.rdata), length-append len it.rdata, ap length it.data_allowed))
 padded_lacks Over Order c o s capacity few fits why = absurd (omega (arith, why))

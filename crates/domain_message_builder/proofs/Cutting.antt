@@ -53,12 +53,12 @@ no_room_of c o t size ttl capacity (no_data named room name grown e) =
 pub opt_lacks_room : {A E : Type 0} (r : Result A (PushError E)) (c : Bool) (o : Opt) (s : State) (capacity : ℕ) → length o.options ≤ 65535 → IfErr r (λ e. OptRefused c o s capacity e) → OnErr r (CannotAddOpt o capacity s)
 opt_lacks_room (Ok x) c o s capacity few why = why
 opt_lacks_room (Err (Append e)) c o s capacity few why =
-    inl (inl (no_room_of c o s.octets o.udp_payload_size (packed_opt_ttl o.rcode_ext o.version o.dnssec_ok) capacity why))
+    inl (inl (no_room_of c o s.octets o.udp_payload_size (packed_opt_ttl o.rcode_ext o.version o.dnssec_ok o.compact_ok) capacity why))
 opt_lacks_room (Err (Long e)) c o s capacity few why = absurd (omega (arith, few, why.2.many, ap length why.2.allowed))
 opt_lacks_room (Err Count) c o s capacity few why = inr why
 opt_lacks_room (Err Limit) c o s capacity few why =
     let it = why.allowed in
-    let head = before_length 41 o.udp_payload_size (packed_opt_ttl o.rcode_ext o.version o.dnssec_ok) in
+    let head = before_length 41 o.udp_payload_size (packed_opt_ttl o.rcode_ext o.version o.dnssec_ok o.compact_ok) in
     let len = to_be_bytes w16 (length it.rdata) in
     inl (inr (omega (arith, why.full, it.name_allowed.read.short, ap length it.all, length-append it.named (head ++ (len ++ it.rdata)), length-append head (len ++ it.rdata), length-append len it.rdata, ap length it.data_allowed)))
 opt_lacks_room (Err Order) c o s capacity few why = absurd (omega (arith, why))
@@ -94,7 +94,7 @@ root_octets c t (x ∷ (y ∷ s)) name = absurd (omega (arith, name.read.short))
 pub opt_is : (c : Bool) (o : Opt) (old new : State) → PushesRecord c Additional (opt_head o) (OnlyOptions o) old new → new.octets ≡ old.octets ++ opt_record_octets o
 opt_is c o old new pushed =
     let done = pushed.octets.allowed in
-    let numbers = before_length 41 o.udp_payload_size (packed_opt_ttl o.rcode_ext o.version o.dnssec_ok) in
+    let numbers = before_length 41 o.udp_payload_size (packed_opt_ttl o.rcode_ext o.version o.dnssec_ok o.compact_ok) in
     let with_data : List ℕ → List ℕ = λ d. numbers ++ (to_be_bytes w16 (length d) ++ d) in
     let named : done.named ≡ 0 ∷ [] = root_octets c old.octets done.named done.name_allowed in
     let parts : pushed.octets.octets ≡ opt_record_octets o = done.all ∙ (ap (λ n. n ++ with_data done.rdata) named ∙ ap (λ d. 0 ∷ with_data d) done.data_allowed) in

@@ -29,7 +29,7 @@ PushesOpt compresses o old new = PushesRecord compresses Additional (opt_head o)
 abbrev pub WritesOpt : {T : Type 0} → (T → List ℕ) → (T → List ℕ → T → Type 0) → (T → ℕ → T → Type 0) → (T → List (List ℕ) → T → Type 0) → Opt → T → T → Type 0
 WritesOpt octets extends cuts appends o =
     NameThenData octets extends cuts (λ c d. appends c Root d) (λ c d. extends c o.options d)
-    (before_length 41 o.udp_payload_size (packed_opt_ttl o.rcode_ext o.version o.dnssec_ok))
+    (before_length 41 o.udp_payload_size (packed_opt_ttl o.rcode_ext o.version o.dnssec_ok o.compact_ok))
 
 -- Why it wasn't.
 abbrev pub OptRefused : {E : Type 0} → Bool → Opt → State → ℕ → PushError E → Type 0

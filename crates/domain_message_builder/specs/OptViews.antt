@@ -7,7 +7,7 @@ use Rattle.domain_message_builder.specs.declared.opt.OptBuilder.{OptBuilder}
 
 -- what is seen of a builder
 abbrev pub opt_of : {O : Type 0} {g : Ghosts O} → OptBuilder O g → Opt
-opt_of {g = g} b = record { udp_payload_size = b.udp_payload_size; rcode_ext = b.rcode_ext; version = b.version; dnssec_ok = b.dnssec_ok; options = g.octets b.options }
+opt_of {g = g} b = record { udp_payload_size = b.udp_payload_size; rcode_ext = b.rcode_ext; version = b.version; dnssec_ok = b.dnssec_ok; compact_ok = b.compact_ok; options = g.octets b.options }
 
 -- how many octets of options fit in all without new memory
 abbrev pub options_room : {O : Type 0} {g : Ghosts O} → OptBuilder O g → ℕ

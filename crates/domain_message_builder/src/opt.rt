@@ -11,11 +11,12 @@ use domain_rdata::{ComposeRdataError, LongRecordData, Rtype, UnknownRecordData};
 use octseq::{Octets, OctetsBuilder, Truncate};
 
 /// The TTL that tells these (6.1.3).
-fn flags_ttl(rcode_ext: u8, version: u8, dnssec_ok: bool) -> u32
-    ensures { result ≡ packed_opt_ttl rcode_ext version dnssec_ok }
+fn flags_ttl(rcode_ext: u8, version: u8, dnssec_ok: bool, compact_ok: bool) -> u32
+    ensures { result ≡ packed_opt_ttl rcode_ext version dnssec_ok compact_ok }
 {
     let numbers = u32::from(rcode_ext) * 16777216 + u32::from(version) * 65536;
-    if dnssec_ok { numbers + 32768 } else { numbers }
+    let with_do = if dnssec_ok { numbers + 32768 } else { numbers };
+    if compact_ok { with_do + 16384 } else { with_do }
 }
 
 /// What an OPT record says: how large a message its sender takes, flags, and options (RFC 6891, 6.1).
@@ -25,6 +26,7 @@ pub struct OptBuilder<Octs: Octets> {
     rcode_ext: u8,
     version: u8,
     dnssec_ok: bool,
+    compact_ok: bool,
     options: Octs,
     ghost few: { length (Octs.octets options) ≤ 65535 },
 }
@@ -48,13 +50,14 @@ impl<Octs: Octets + Drop> OptBuilder<Octs> {
             rcode_ext: 0,
             version: 0,
             dnssec_ok: false,
+            compact_ok: false,
             options,
         })
     }
 }
 
 impl<Octs: Octets> OptBuilder<Octs> {
-    ghost use Rattle.domain_message_builder.specs.Opt.{with_size, with_rcode_ext, with_version, with_dnssec_ok, opt_head};
+    ghost use Rattle.domain_message_builder.specs.Opt.{with_size, with_rcode_ext, with_version, with_dnssec_ok, with_compact_ok, opt_head};
     ghost use Rattle.domain_message_builder.specs.OptViews.{opt_of};
     ghost use Rattle.domain_message_builder.specs.Pushes.{headed};
     ghost use Rattle.domain_header.specs.Values.{class_number, ttl_seconds};
@@ -90,6 +93,13 @@ impl<Octs: Octets> OptBuilder<Octs> {
         ensures { opt_of self.new ≡ with_dnssec_ok on (opt_of self.old) }
     {
         self.dnssec_ok = on;
+    }
+
+    /// Sets the bit CO, or clears it: its sender takes compact denials of existence (RFC 9824, 5.1).
+    pub fn set_compact_ok(&mut self, on: bool)
+        ensures { opt_of self.new ≡ with_compact_ok on (opt_of self.old) }
+    {
+        self.compact_ok = on;
     }
 
     /// How many octets the record has in a message: eleven, and those of its options.
@@ -131,7 +141,12 @@ impl<Octs: Octets> OptBuilder<Octs> {
         ensures ttl { ttl_seconds (ttl_of result) ≡ (opt_head (opt_of self.now)).ttl }
         ensures rdata { data_of result ≡ rdata }
     {
-        let ttl = flags_ttl(self.rcode_ext, self.version, self.dnssec_ok);
+        let ttl = flags_ttl(
+            self.rcode_ext,
+            self.version,
+            self.dnssec_ok,
+            self.compact_ok,
+        );
         let class = Class::from_int(self.udp_payload_size);
         Record::new(Name::root_ref(), class, Ttl::from_secs(ttl), rdata)
     }

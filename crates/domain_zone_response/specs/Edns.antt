@@ -30,7 +30,14 @@ asks_dnssec (Err e) = false
 -- An OPT record of version 0 without options: the server's size, the upper bits of the response code, and the bit DO.
 abbrev pub plain_opt : ℕ → ℕ → Bool → Opt
 plain_opt size upper dnssec_ok =
-    record { udp_payload_size = taken_size size; rcode_ext = upper; version = 0; dnssec_ok = dnssec_ok; options = [] }
+    record {
+      udp_payload_size = taken_size size;
+      rcode_ext = upper;
+      version = 0;
+      dnssec_ok = dnssec_ok;
+      compact_ok = false;
+      options = [];
+    }
 
 -- The OPT record of a response: there is one exactly where the query has one and no entry of it is missing (RFC 6891,
 -- 6.1.1). DO is that of the query (RFC 3225, 3).

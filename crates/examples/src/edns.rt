@@ -5,7 +5,7 @@ ghost use Rattle.domain_message.specs.Messages.{message_octets};
 ghost use Rattle.domain_message_builder.specs.OptViews.{opt_of};
 ghost use Rattle.examples.specs.EdnsSizes.{SaysCookie, TellsSize};
 
-use domain_message::{Message, OptError, opt_of};
+use domain_message::{Cookie, Message, OptError, opt_of};
 use domain_message_builder::OptBuilder;
 use octseq::Octets;
 use std::alloc::Global;
@@ -22,17 +22,16 @@ pub fn size_taken<Octs: Octets>(message: &Message<Octs>) -> Result<u16, OptError
     }
 }
 
-/// What an OPT record says that takes 1,232 octets and has a cookie (RFC 7873, 4): eight octets of a client's own, and
-/// behind them those that the server sent before. `None` only if an allocation failed, or the cookie has more than
-/// 65,531 octets.
-pub fn with_cookie(alloc: Global, cookie: &[u8]) -> Option<OptBuilder<Vec<u8>>>
-    ensures { IfSome result (λ opt. SaysCookie cookie.now (opt_of opt)) }
+/// What an OPT record says that takes 1,232 octets and has cookies (RFC 7873, 4): eight octets of a client's own, and
+/// those that the server sent before, if any. `None` only if an allocation failed, or a cookie has a wrong length.
+pub fn with_cookie(alloc: Global, cookie: Cookie<'_>) -> Option<OptBuilder<Vec<u8>>>
+    ensures { IfSome result (λ opt. SaysCookie cookie.entry (opt_of opt)) }
 {
     let Ok(mut opt) = OptBuilder::new(Vec::new(alloc)) else {
         return None;
     };
     opt.set_udp_payload_size(1232);
-    match opt.push_raw_option(10, cookie) {
+    match opt.push_cookie(cookie) {
         Ok(()) => Some(opt),
         Err(_) => None,
     }
