@@ -1,6 +1,6 @@
 pub mod Counted
+pub mod EachKind
 pub mod Fields
-pub mod Kinds
 pub mod Lines
 pub mod Octets
 pub mod Reading

@@ -9,7 +9,7 @@ use Rattle.domain_fields.specs.Sequences.{BothAt, BothComposed, BothWritten, bot
 use Rattle.domain_data_laws.specs.ByTable.{MayBeData, ReadsKinds}
 use Rattle.domain_data_laws.specs.Laws.{AreReadAs}
 use Rattle.domain_data_laws.specs.FieldValues.{ValueOf, ValuesOf, HaveValues}
-use Rattle.domain_data_laws.proofs.Kinds.{IsField}
+use Rattle.domain_data_laws.proofs.EachKind.{IsField}
 
 -- The same of fields of these kinds.
 pub record AreFields (all : List FieldKind) (At : List ℕ → ℕ → ValuesOf all → ℕ → Type 0) : Type 0 where

@@ -10,7 +10,7 @@ use Rattle.domain_svcb.specs.Services.{ServiceAt}
 use Rattle.domain_data.specs.OctetShapes.{StringsAt, RuleAt, FingerprintAt, KeyAt, AssociationAt, PropertyAt, SignatureAt, DenialAt}
 use Rattle.domain_data.specs.Shapes.{NumberNameAt, NumbersNameAt, NamesNumbersAt, NamesAt, NumberNamesAt}
 use Rattle.domain_data_laws.specs.ByTable.{ReadsKinds}
-use Rattle.domain_data_laws.proofs.Kinds.{number8, number16, rtype, ttl, serial, time, ipv4, ipv6, name, string, tag, quoted, base16, base64, text, bitmaps, params}
+use Rattle.domain_data_laws.proofs.EachKind.{number8, number16, rtype, ttl, serial, time, ipv4, ipv6, name, string, tag, quoted, base16, base64, text, bitmaps, params}
 use Rattle.domain_data_laws.proofs.Lines.{last, before, whole, whole_alone}
 
 pub ipv4_line : ReadsKinds (Ipv4 ∷ []) (AllAt (FixedAt 4 ipv4_of))
