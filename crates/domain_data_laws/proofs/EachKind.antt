@@ -1,5 +1,5 @@
 -- Each field that is read is the table's field of a kind, and says what this says.
-use Rattle.std.specs.Prelude.{◌≡◌, ℕ, ◌+◌, ◌-◌, ◌≤◌, List, length, drop, take, slice_range, Some, refl}
+use Rattle.std.specs.Prelude.{◌≡◌, ℕ, ◌+◌, ◌-◌, ◌≤◌, List, [], ◌∷◌, length, drop, take, slice_range, Some, refl}
 use Rattle.std.specs.Int.{w8, w16, w32, from_be_bytes}
 use Rattle.std.proofs.Common.{arith, ap, sym, subst, ◌∙◌}
 use Rattle.std.proofs.lemmas.List.{length-drop, take_rest}
@@ -18,13 +18,12 @@ use Rattle.domain_strings.specs.Tags.{IsTag, TagAt}
 use Rattle.domain_strings.specs.TagLaws.{tag_reading}
 use Rattle.domain_dnssec.specs.BitmapReading.{BitmapsAt, bitmaps_reading}
 use Rattle.domain_dnssec.specs.TypeBitmaps.{blocks_octets}
-use Rattle.domain_txt.specs.Strings.{AreStrings, string_octets}
 use Rattle.domain_txt.specs.TxtReading.{TextAt}
 use Rattle.domain_svcb.specs.ParamsReading.{ParamsAt, params_reading}
 use Rattle.domain_svcb.specs.SvcParams.{params_octets}
 use Rattle.domain_data_laws.specs.ByTable.{MayBeData}
 use Rattle.domain_data_laws.specs.FieldValues.{ValueOf, ValueAt}
-use Rattle.domain_data_laws.proofs.Octets.{same_length, number8_is}
+use Rattle.domain_data_laws.proofs.Octets.{number8_is}
 use Rattle.domain_data_laws.proofs.Counted.{string_here, string_there, strings_here, strings_there, some_string, blocks_here, blocks_there, some_block, blocks_some, params_here, params_there}
 
 -- What is read is the table's field of this kind, and where that is it is read.

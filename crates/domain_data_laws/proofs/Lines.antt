@@ -67,20 +67,22 @@ pub composed_data : {all : List FieldKind} {R : Type 0} {At : List ℕ → ℕ �
 composed_data law read = (law.are_data _ _ read.there.0 _ read.there.1).0
 
 -- A target that counts names goes on by this number.
-abbrev pub Counts : (ℕ → ℕ → Type 0) → ℕ → Type 0
-Counts Written count = (old new : ℕ) → Written old new ↔ (new ≡ old + count)
+pub record Counts (Written : ℕ → ℕ → Type 0) (count : ℕ) : Type 0 where
+  pub counts : (old new : ℕ) → Written old new ↔ (new ≡ old + count)
 
 pub no_name : Counts (λ old new. new ≡ old) 0
-no_name old new = (λ is. omega (arith, is), λ is. omega (arith, is))
+no_name = record { counts = λ old new. (λ is. omega (arith, is), λ is. omega (arith, is)) }
 
 pub one_name : Counts (λ old new. new ≡ old + 1) 1
-one_name old new = (λ is. is, λ is. is)
+one_name = record { counts = λ old new. (λ is. is, λ is. is) }
 
 pub both : {First Rest : ℕ → ℕ → Type 0} {i k : ℕ} → Counts First i → Counts Rest k → Counts (BothWritten First Rest) (i + k)
-both {First} {Rest} {i} {k} first rest old new = (
-  λ w. omega (arith, (first old w.middle).0 w.first, (rest w.middle new).0 w.rest),
-  λ is. record { middle = old + i; first = (first old (old + i)).1 refl; rest = (rest (old + i) new).1 (omega (arith, is)) },
-)
+both {i = i} first rest = record {
+  counts = λ old new. (
+    λ w. omega (arith, (first.counts old w.middle).0 w.first, (rest.counts w.middle new).0 w.rest),
+    λ is. record { middle = old + i; first = (first.counts old (old + i)).1 refl; rest = (rest.counts (old + i) new).1 (omega (arith, is)) },
+  );
+}
 
 -- Nothing else is composed.
 abbrev pub ComposesOnly : (List ℕ → List ℕ → Type 0) → List ℕ → Type 0

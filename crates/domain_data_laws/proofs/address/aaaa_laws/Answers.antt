@@ -17,6 +17,6 @@ pub returns-clause-table : goal.returns-clause-table
 returns-clause-table c = record {
   reads = ipv6_line;
   composes = λ it fits compresses t s may. composed_data ipv6_line ((returns-clause-read c it fits).1 compresses t s may);
-  names = λ it. no_name 0;
+  names = λ it. no_name.counts 0;
   plain = λ may it compresses. plain;
 }

@@ -23,6 +23,6 @@ pub returns-clause-table : goal.returns-clause-table
 returns-clause-table g c = record {
   reads = soa_line;
   composes = λ it fits compresses t s may. composed_data soa_line ((returns-clause-read g c it fits).1 compresses t s may);
-  names = λ it. both one_name (both one_name (both no_name (both no_name (both no_name (both no_name no_name))))) 0;
+  names = λ it. (both one_name (both one_name (both no_name (both no_name (both no_name (both no_name no_name)))))).counts 0;
   plain = λ may. absurd (true≢false may);
 }

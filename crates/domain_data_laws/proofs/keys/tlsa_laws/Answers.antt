@@ -21,6 +21,6 @@ pub returns-clause-table : goal.returns-clause-table
 returns-clause-table g c = record {
   reads = association_line;
   composes = λ it fits compresses t s may. composed_data association_line ((returns-clause-read g c it fits).1 compresses t s may);
-  names = λ it. both no_name (both no_name (both no_name no_name)) 0;
+  names = λ it. (both no_name (both no_name (both no_name no_name))).counts 0;
   plain = λ may it compresses. plain_both plain (plain_both plain (plain_both plain plain));
 }

@@ -18,6 +18,6 @@ pub returns-clause-table : goal.returns-clause-table
 returns-clause-table g c = record {
   reads = names_line;
   composes = λ it fits compresses t s may. composed_data names_line ((returns-clause-read g c it fits).1 compresses t s may);
-  names = λ it. both one_name one_name 0;
+  names = λ it. (both one_name one_name).counts 0;
   plain = λ may. absurd (true≢false may);
 }

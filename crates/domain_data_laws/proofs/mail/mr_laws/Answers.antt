@@ -7,6 +7,6 @@ pub returns-clause-table : goal.returns-clause-table
 returns-clause-table g c = record {
   reads = name_line;
   composes = λ it fits compresses t s may. composed_data name_line ((c.name_laws.ensures.read it fits).1 compresses t s may);
-  names = λ it. one_name 0;
+  names = λ it. one_name.counts 0;
   plain = λ may. absurd (true≢false may);
 }

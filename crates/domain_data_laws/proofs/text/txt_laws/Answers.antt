@@ -15,6 +15,6 @@ pub returns-clause-table : goal.returns-clause-table
 returns-clause-table g c = record {
   reads = text_line;
   composes = λ it fits compresses t s may. composed_data text_line ((returns-clause-read g c it fits).1 compresses t s may);
-  names = λ it. no_name 0;
+  names = λ it. no_name.counts 0;
   plain = λ may it compresses. plain;
 }
