@@ -50,7 +50,7 @@ name_count (kind ∷ others) = names_of_form (form kind) + name_count others
 abbrev pub names_left : ℕ → ℕ
 names_left rtype = if compresses_names rtype then name_count (known_fields rtype 1) else 0
 
--- Whatever is composed leaves so many names to the target: a target that does nothing but count them comes to this
+-- Whatever is composed leaves `count` names to the target: a target that does nothing but count them comes to this
 -- number. `d` is `⟦<D as ComposeRecordData>⟧`.
 abbrev pub LeavesNames : {D : Type 0} → DataMembers D → ℕ → Type 0
 LeavesNames {D} d count =
@@ -58,6 +58,8 @@ LeavesNames {D} d count =
 
 -- Data of the type with this number follows the line of the type in the table, in class IN.
 pub record FollowsTable {D : Type 0} (rtype : ℕ) (d : DataMembers D) (encodes : ℕ → List ℕ → ℕ → ValuesOf (known_fields rtype 1) → ℕ → Type 0) (Fits : D → Type 0) : Type 0 where
+  -- Its type has this number.
+  pub typed : (it : D) → d.type_number it ≡ rtype
   -- It is read exactly where the fields of the line are all octets, and says what they say.
   pub reads : ReadsKinds (known_fields rtype 1) (encodes rtype)
   -- Whatever may be composed for data with numbers that fit, after any octets, is data by the line.

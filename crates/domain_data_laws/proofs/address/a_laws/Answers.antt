@@ -15,6 +15,7 @@ returns-clause-read c = λ it fits.
 
 pub returns-clause-table : goal.returns-clause-table
 returns-clause-table c = record {
+  typed = λ it. refl;
   reads = ipv4_line;
   composes = λ it fits compresses t s may. composed_data ipv4_line ((returns-clause-read c it fits).1 compresses t s may);
   names = λ it. no_name.counts 0;

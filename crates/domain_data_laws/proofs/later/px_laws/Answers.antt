@@ -17,6 +17,7 @@ returns-clause-read g c = λ it fits.
 
 pub returns-clause-table : goal.returns-clause-table
 returns-clause-table g c = record {
+  typed = λ it. refl;
   reads = number_names_line;
   composes = λ it fits compresses t s may. composed_data number_names_line ((returns-clause-read g c it fits).1 compresses t s may);
   names = λ it. (both no_name (both no_name no_name)).counts 0;

@@ -13,6 +13,7 @@ returns-clause-read g c = λ it fits.
 
 pub returns-clause-table : goal.returns-clause-table
 returns-clause-table g c = record {
+  typed = λ it. refl;
   reads = text_line;
   composes = λ it fits compresses t s may. composed_data text_line ((returns-clause-read g c it fits).1 compresses t s may);
   names = λ it. no_name.counts 0;
