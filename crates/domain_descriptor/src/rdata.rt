@@ -32,8 +32,8 @@ pub struct Rdata<'m> {
 impl<'m> Rdata<'m> {
     ghost use Rattle.domain_descriptor.specs.Rdatas.{rdata_type, rdata_class, rdata_kinds, rdata_message, rdata_begin, IsRdata, IsField, HasFieldsLeft};
 
-    /// The data of this type in this class that the octets from `begin` to the end of the message are (RFC 1035,
-    /// 3.2.1).
+    /// Returns the data of this type in this class that the octets from `begin` to the end of the message are (RFC
+    /// 1035, 3.2.1).
     ///
     /// # Errors
     ///
