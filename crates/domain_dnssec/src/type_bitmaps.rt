@@ -117,10 +117,12 @@ impl<Octs: Octets + Drop> TypeBitmaps<Octs> {
 
     /// Returns the bitmaps that these octets are.
     ///
-    /// The error is `Long` if they are more than 65,535 octets, and otherwise the first error from the left:
-    /// - `ShortInput`, if there is no octet, or they end inside a block.
-    /// - `WindowOrder`, if the window of a block isn't greater than that of the block before it.
-    /// - `BitmapLength`, if a block has no octet or more than 32.
+    /// # Errors
+    ///
+    /// Returns `Long` if there are more than 65,535 octets, and otherwise the first error from the left:
+    /// - `ShortInput` if there is no octet, or they end inside a block;
+    /// - `WindowOrder` if the window of a block isn't greater than that of the block before it;
+    /// - `BitmapLength` if a block has no octet or more than 32.
     pub fn from_octets(octets: Octs) -> Result<TypeBitmaps<Octs>, TypeBitmapsError>
         ensures held { IfOk result (λ it. bitmaps_holder it ≡ octets) }
         ensures err { IfErr result (HasBitmapsFault (Octs.octets octets)) }

@@ -193,8 +193,10 @@ fn words_of_data(alloc: Global, plain: &PlainData) -> Result<Vec<Vec<u8>>, Alloc
     generic_words_of(alloc, plain.octets.as_slice())
 }
 
-/// Appends the text of record data: its fields with a space between two (RFC 1035, 5.1), or `\#`, the number of its
-/// octets and these in hexadecimal digits (RFC 3597, 5).
+/// Appends the text of record data.
+///
+/// It is its fields with a space between two (RFC 1035, 5.1), or `\#`, the number of its octets and these in
+/// hexadecimal digits (RFC 3597, 5).
 ///
 /// The second form is for data with a field that has no form of its own ([`TextForm`](crate::TextForm)), for data
 /// whose last field is empty, and for bitmaps of types that aren't canonical (RFC 4034, 4.1.2).

@@ -62,7 +62,11 @@ impl<Octs: Octets + Copy> Clone for CharString<Octs> {
 impl<Octs: Octets + Drop> CharString<Octs> {
     ghost use Rattle.domain_strings.specs.Views.{char_holder};
 
-    /// The string of these octets. `LongCharString` exactly where they are more than 255.
+    /// Returns the string of these octets.
+    ///
+    /// # Errors
+    ///
+    /// Returns `LongCharString` if and only if there are more than 255.
     pub fn from_octets(octets: Octs) -> Result<CharString<Octs>, LongCharString>
         ensures held { IfOk result (λ it. char_holder it ≡ octets) }
         ensures long { IsErr result ↔ (255 < length (Octs.octets octets)) }

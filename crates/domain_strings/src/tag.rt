@@ -76,7 +76,11 @@ impl<Octs: Octets + Copy> Clone for Tag<Octs> {
 impl<Octs: Octets + Drop> Tag<Octs> {
     ghost use Rattle.domain_strings.specs.TagViews.{tag_string};
 
-    /// The tag that this string is. `InvalidTag` exactly where it is none.
+    /// Returns the tag that this string is.
+    ///
+    /// # Errors
+    ///
+    /// Returns `InvalidTag` if and only if it is none.
     pub fn from_string(string: CharString<Octs>) -> Result<Tag<Octs>, InvalidTag>
         ensures held { IfOk result (λ it. tag_string it ≡ string) }
         ensures invalid { IsErr result ↔ (IsTag (char_octets string) → ⊥) }
