@@ -22,7 +22,11 @@ pub trait Source {
     /// The last call failed.
     ghost failed: { Self → Type 0 };
 
-    /// Reads all that remains. Returns `Read` if reading failed, and `Memory` if there was no memory for it.
+    /// Reads all that remains.
+    ///
+    /// # Errors
+    ///
+    /// Returns `Read` if reading failed, and `Memory` if an allocation failed.
     fn read_whole(&mut self, alloc: Global) -> Result<Vec<u8>, ToolError>
         ensures octets { IfOk result (λ it. IfSome (remaining self.old) (λ m. it.items ≡ m)) }
         ensures whole { OnOk result (IsAtEnd (remaining self.new)) }
@@ -62,6 +66,10 @@ pub trait Sink {
     ghost sent: { Self → Type 0 };
 
     /// Writes octets.
+    ///
+    /// # Errors
+    ///
+    /// Returns an error if writing failed.
     fn put_octets(&mut self, octets: &[u8]) -> Result<(), WriteFault>
         ensures written { OnOk result
             (Appends (contents self.old) (contents self.new) octets.now) }
@@ -69,12 +77,20 @@ pub trait Sink {
         ensures failed { OnErr result (failed self.new) };
 
     /// Writes a text and a newline.
+    ///
+    /// # Errors
+    ///
+    /// Returns an error if writing failed.
     fn put_line<D: Display + Drop>(&mut self, text: D) -> Result<(), WriteFault>
         ensures written { OnOk result (AppendsLine contents (D.output text) self.old self.new) }
         ensures taken { OnOk result (PutsTextLine takes (D.output text) self.old self.new) }
         ensures failed { OnErr result (failed self.new) };
 
     /// Sends on what was written.
+    ///
+    /// # Errors
+    ///
+    /// Returns an error if that failed.
     fn send(&mut self) -> Result<(), WriteFault>
         ensures kept { OnOk result (Keeps (contents self.old) (contents self.new)) }
         ensures sent { OnOk result (sent self.new) }

@@ -127,6 +127,10 @@ fn push_answers<'a>(
 ///
 /// `first` is the response to the question itself, and `names` are those about which the chain goes on to ask, as
 /// `follow` returns them.
+///
+/// # Errors
+///
+/// Returns an error if an allocation failed.
 pub fn respond_along<'a>(
     alloc: Global,
     zone: &'a Zone,
