@@ -112,7 +112,7 @@ impl<B: OctetsBuilder + OctetsMut> LabelsBuilder<B> {
     ///
     /// # Errors
     ///
-    /// Those of `append_chars`. What the symbols before the error made is kept.
+    /// Returns the errors of `append_chars`. What the symbols before the error made is kept.
     pub fn append_str(&mut self, text: &str) -> Result<(), FromStrError>
         ensures takes { AddsText B.limit (chars text.now) self.old result self.new }
         ensures capacity { self.old.capacity ≤ self.new.capacity }

@@ -553,7 +553,7 @@ impl<const N: usize> LabelsBuilder<ArrayVec<u8, N>> {
     ///
     /// # Errors
     ///
-    /// Never fails.
+    /// This call never fails.
     pub fn clone(&self, alloc: Global) -> Result<Self, ShortBuf>
         ensures built { IfOk result (λ copy. copy.built ≡ self.now.built) }
         ensures made { IsOk result }

@@ -204,11 +204,11 @@ impl<T: Composer> OctetsBuilder for CompressComposer<T> {
     ghost extends = { λ c s d. (T.octets d.target ≡ T.octets c.target ++ s)
         × (remembered_labels d ≡ remembered_labels c) };
 
-    /// Appends all of the octets, or none, like the target. The offsets are unchanged.
+    /// Appends all of the octets, or none, like the target, and leaves the offsets unchanged.
     ///
     /// # Errors
     ///
-    /// Those of the target.
+    /// Returns the errors of the target.
     fn append_slice(&mut self, slice: &[u8]) -> Result<(), T::AppendError>
         ensures ok { OnOk result (octets_of self.new ≡ octets_of self.old ++ slice.now) }
         ensures unchanged { OnErr result (octets_of self.new ≡ octets_of self.old) }

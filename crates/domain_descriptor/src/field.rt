@@ -114,9 +114,9 @@ fn form_end(form: FieldForm, message: &[u8], at: usize) -> Result<usize, DataFau
 /// - `Name` with the [`NameFault`] of a name, which has at most 255 octets and is read through at most 255 pointers;
 /// - `InvalidTag` if a tag is empty, or has an octet that is no letter and no digit;
 /// - `EmptyHash` if the hash of NSEC3 has no octet;
-/// - `WindowOrder` if the window of a block of type bitmaps isn't more than that of the block before it, and
-///   `BitmapLength` if a block has no octet or more than 32;
-/// - `KeyOrder` if the key of a service parameter isn't more than that of the one before it.
+/// - `WindowOrder` if the window of a block of type bitmaps isn't greater than that of the block before it;
+/// - `BitmapLength` if such a block has no octet or more than 32;
+/// - `KeyOrder` if the key of a service parameter isn't greater than that of the one before it.
 #[tactic(auto, using(crate::proofs::Steps::form_at, crate::proofs::Steps::form_fault))]
 pub fn field_end(kind: FieldKind, message: &[u8], at: usize) -> Result<usize, DataFault>
     requires { at ≤ length message.now }

@@ -20,7 +20,7 @@ pub trait FieldError: Sized {
     /// What the error says.
     ghost said: { Self → Refusal };
 
-    /// The error where octets are left after the last field.
+    /// The error if octets remain after the last field.
     fn trailing_data() -> Self
         ensures { said result ≡ form (codes "trailing data") };
 }

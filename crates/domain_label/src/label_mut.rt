@@ -55,7 +55,7 @@ impl<'a> LabelMut<'a> {
     ///
     /// # Errors
     ///
-    /// Those of [`Label::split_from`]. The octets are then unchanged.
+    /// Returns the errors of [`Label::split_from`]. The octets are then unchanged.
     pub fn split_from_mut(
         octets: &'a mut [u8],
     ) -> Result<(LabelMut<'a>, &'a mut [u8]), SplitLabelError>

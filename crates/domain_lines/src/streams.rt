@@ -16,7 +16,7 @@ use std::io::{Read, Write};
 /// A contract states by `failed` that reading failed. A function over any `Source` knows nothing of `failed` except
 /// that a call that failed left it so. So its contract can't report a failure that didn't occur.
 pub trait Source {
-    /// What is left to read, where that is known.
+    /// What remains to be read, if that is known.
     ghost remaining: { Self → Option (List ℕ) };
 
     /// The last call failed.
@@ -49,8 +49,9 @@ impl<R: Read> Source for R {
 
 /// A stream that lines and octets are written to: any `Write`. `failed` is as that of `Source`.
 ///
-/// A contract tells by `sent` that all was sent on, of which a function over any `Sink` knows nothing but that a
-/// `send` that returned `Ok` left it so. So it can't tell so where it didn't send, or passed over an error.
+/// A contract states by `sent` that all was sent on. A function over any `Sink` knows nothing of `sent` except that a
+/// `send` that returned `Ok` left it so. So its contract can't state it if the function didn't send, or ignored an
+/// error.
 pub trait Sink {
     /// What it holds, where that is known.
     ghost contents: { Self → Option (List ℕ) };

@@ -191,7 +191,7 @@ fn bits_of_family(family: u16) -> Option<u8>
     }
 }
 
-/// So many bits of an address of this family can be told, or an error of form.
+/// Checks that this many bits of an address of this family can be encoded; else returns a form error.
 fn check_prefix(family: u16, source: u8) -> Result<(), ParseError>
     ensures ok { OnOk result (IsPrefix family source) }
     ensures err { IfErr result (λ e. IsPrefixFault family source (refusal e)) }
@@ -244,7 +244,7 @@ fn ends_in_zeros(address: &[u8], bits: u8) -> bool
     address[usize::from(bits / 8)] % multiple_of(first) == 0
 }
 
-/// Octets are so many bits of an address, or `ShortInput` or an error of form.
+/// Checks that octets are this many bits of an address; else returns `ShortInput` or a form error.
 fn check_address(source: u8, address: &[u8]) -> Result<(), ParseError>
     ensures ok { OnOk result (IsAddress source address.now) }
     ensures err { IfErr result (λ e. IsAddressFault source address.now (refusal e)) }

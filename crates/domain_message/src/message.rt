@@ -101,7 +101,7 @@ impl<Octs: Octets> Message<Octs> {
         Question::parse(&mut parser)
     }
 
-    /// Returns the first question. `None` exactly if the header counts none, or it is missing.
+    /// Returns the first question. `None` exactly when the header counts none, or it is missing.
     pub fn first_question(&self) -> Option<Question<ParsedName<&[u8]>>>
         ensures some { IfSome result (λ q. CountsQuestions self.now × StandsFirst self.now q) }
         ensures none { IsNone result → CountsNoQuestion self.now ⊎ LacksFirstQuestion self.now }
@@ -142,7 +142,7 @@ impl<Octs: Octets> Message<Octs> {
     ///
     /// # Errors
     ///
-    /// The error says why a question is missing.
+    /// Returns an error that says why a question is missing.
     pub fn answer(&self) -> Result<RecordSection<'_>, ParseError>
         ensures ok { IfOk result (IsAnswerSection self.now) }
         ensures err { IfErr result (λ e. NoQuestions (message_octets self.now) e) }
@@ -154,7 +154,7 @@ impl<Octs: Octets> Message<Octs> {
     ///
     /// # Errors
     ///
-    /// The error says why a question or a record before them is missing.
+    /// Returns an error that says why a question or a record before them is missing.
     pub fn authority(&self) -> Result<RecordSection<'_>, ParseError>
         ensures ok { IfOk result (IsAuthoritySection self.now) }
         ensures err { IfErr result (λ e. NoAnswers (message_octets self.now) e) }
@@ -174,7 +174,7 @@ impl<Octs: Octets> Message<Octs> {
     ///
     /// # Errors
     ///
-    /// The error says why a question or a record before them is missing.
+    /// Returns an error that says why a question or a record before them is missing.
     pub fn additional(&self) -> Result<RecordSection<'_>, ParseError>
         ensures ok { IfOk result (IsAdditionalSection self.now) }
         ensures err { IfErr result (λ e. NoAuthority (message_octets self.now) e) }

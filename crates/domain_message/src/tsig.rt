@@ -80,7 +80,7 @@ impl<'a> TsigData<'a> {
     ///
     /// # Errors
     ///
-    /// Those of [`Tsig::from_octets`].
+    /// Returns the errors of [`Tsig::from_octets`].
     pub fn fields(&self) -> Result<Tsig<'a>, ParseError>
         ensures ok { IfOk result (SayTsig (tsig_octets self.now)) }
         ensures err { IfErr result (IsTsigFault (tsig_octets self.now)) }

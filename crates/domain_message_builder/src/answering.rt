@@ -41,7 +41,7 @@ impl<Target: Composer> MessageBuilder<Target> {
     ///
     /// # Errors
     ///
-    /// Those of `push_question`, in its order. Nothing is then changed.
+    /// Returns the errors of `push_question`, in its order. Nothing is then changed.
     pub fn start_answer<Octs: Octets>(
         &mut self,
         query: &Message<Octs>,

@@ -63,7 +63,8 @@ impl<Target: Composer> MarkedBuilder<Target> {
     ///
     /// # Errors
     ///
-    /// Those of `push_question` of a `MessageBuilder`. Nothing is then changed, including what the target remembers.
+    /// Returns the errors of `push_question` of a `MessageBuilder`. Nothing is then changed, including what the target
+    /// remembers.
     pub fn push_question<'a, N: AbsoluteLabels<'a>>(
         &mut self,
         question: &'a Question<N>,
@@ -100,7 +101,8 @@ impl<Target: Composer> MarkedBuilder<Target> {
     ///
     /// # Errors
     ///
-    /// Those of `push` of a `MessageBuilder`. Nothing is then changed, including what the target remembers.
+    /// Returns the errors of `push` of a `MessageBuilder`. Nothing is then changed, including what the target
+    /// remembers.
     pub fn push<'a, N: AbsoluteLabels<'a>, D: ComposeRecordData>(
         &mut self,
         section: Section,
@@ -140,7 +142,8 @@ impl<Target: Composer> MarkedBuilder<Target> {
     ///
     /// # Errors
     ///
-    /// Those of `push_rrset` of a `MessageBuilder`. Nothing is then changed, including what the target remembers.
+    /// Returns the errors of `push_rrset` of a `MessageBuilder`. Nothing is then changed, including what the target
+    /// remembers.
     pub fn push_rrset<'a, N: AbsoluteLabels<'a>, D: ComposeRecordData>(
         &mut self,
         section: Section,

@@ -99,7 +99,7 @@ impl<Octs: OctetsBuilder> OptBuilder<Octs> {
     ///
     /// # Errors
     ///
-    /// Those of `push_nsid`. Nothing is then changed.
+    /// Returns the errors of `push_nsid`. Nothing is then changed.
     pub fn push_tcp_keepalive(
         &mut self,
         keepalive: TcpKeepalive,

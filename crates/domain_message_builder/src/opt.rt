@@ -10,7 +10,7 @@ use domain_name::Name;
 use domain_rdata::{ComposeRdataError, LongRecordData, Rtype, UnknownRecordData};
 use octseq::{Octets, OctetsBuilder, Truncate};
 
-/// The TTL that tells these (6.1.3).
+/// The TTL that encodes these (6.1.3).
 fn flags_ttl(rcode_ext: u8, version: u8, dnssec_ok: bool) -> u32
     ensures { result ≡ packed_opt_ttl rcode_ext version dnssec_ok }
 {

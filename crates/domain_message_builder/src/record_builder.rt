@@ -168,8 +168,8 @@ impl<Target: Composer> RecordBuilder<Target, AdditionalSection> {
     ///
     /// # Errors
     ///
-    /// Those of `push`, and only if the record has no room or there are 65,535 records. Nothing is then changed,
-    /// including what the target remembers.
+    /// Returns the errors of `push`, and only if the record has no room or there are 65,535 records. Nothing is then
+    /// changed, including what the target remembers.
     pub fn push_opt<Octs: Octets>(
         &mut self,
         opt: &OptBuilder<Octs>,

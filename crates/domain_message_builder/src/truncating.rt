@@ -41,8 +41,8 @@ impl<Target: Composer> MessageBuilder<Target> {
     ///
     /// # Errors
     ///
-    /// Those of `push`, and only if the record has no room, or there are 65,535 additional records. Nothing is then
-    /// changed.
+    /// Returns the errors of `push`, and only if the record has no room, or there are 65,535 additional records.
+    /// Nothing is then changed.
     pub fn push_opt<Octs: Octets>(
         &mut self,
         opt: &OptBuilder<Octs>,

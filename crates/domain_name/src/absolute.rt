@@ -85,7 +85,7 @@ impl<'a> Name<&'a [u8]> {
     ///
     /// # Errors
     ///
-    /// Those of [`from_octets`](Name::from_octets).
+    /// Returns the errors of [`from_octets`](Name::from_octets).
     ///
     /// # Examples
     ///
@@ -511,7 +511,7 @@ impl<const N: usize> Name<ArrayVec<u8, N>> {
     ///
     /// # Errors
     ///
-    /// Never fails.
+    /// This call never fails.
     pub fn clone(&self, alloc: Global) -> Result<Name<ArrayVec<u8, N>>, ShortBuf>
         ensures ok { IfOk result (λ name. name_labels name ≡ name_labels self.now) }
         ensures made { IsOk result }

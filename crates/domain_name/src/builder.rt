@@ -107,7 +107,7 @@ impl<const N: usize> NameBuilder<ArrayVec<u8, N>> {
     ///
     /// # Errors
     ///
-    /// Never fails.
+    /// This call never fails.
     pub fn clone(&self, alloc: Global) -> Result<Self, ShortBuf>
         ensures built { IfOk result (λ copy. built copy ≡ built self.now) }
         ensures made { IsOk result }

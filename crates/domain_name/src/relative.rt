@@ -102,7 +102,7 @@ impl<'a> RelativeName<&'a [u8]> {
     ///
     /// # Errors
     ///
-    /// Those of [`from_octets`](RelativeName::from_octets).
+    /// Returns the errors of [`from_octets`](RelativeName::from_octets).
     pub fn from_slice(octets: &'a [u8]) -> Result<RelativeName<&'a [u8]>, RelativeNameError>
         ensures ok { IfOk result (λ name. relative_octets name ≡ octets.now) }
         ensures list { ReadsRelativeWire octets.now result }
@@ -460,7 +460,7 @@ impl RelativeName<Vec<u8>> {
     ///
     /// # Errors
     ///
-    /// Never fails: nothing is allocated.
+    /// This call never fails: nothing is allocated.
     pub fn empty_vec(alloc: Global) -> Result<RelativeName<Vec<u8>>, ShortBuf>
         ensures ok { IfOk result (λ name. relative_labels name ≡ []) }
         ensures made { IsOk result }
@@ -499,7 +499,7 @@ impl<const N: usize> RelativeName<ArrayVec<u8, N>> {
     ///
     /// # Errors
     ///
-    /// Never fails.
+    /// This call never fails.
     pub fn clone(&self, alloc: Global) -> Result<RelativeName<ArrayVec<u8, N>>, ShortBuf>
         ensures ok { IfOk result (λ name. relative_labels name ≡ relative_labels self.now) }
         ensures made { IsOk result }

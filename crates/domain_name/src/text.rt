@@ -66,7 +66,7 @@ where
     ///
     /// # Errors
     ///
-    /// Those of `from_chars`.
+    /// Returns the errors of `from_chars`.
     #[inline(always)]
     pub fn from_symbols<I: Iterator<Item = Symbol> + Drop>(
         alloc: Global,
@@ -115,7 +115,7 @@ impl Name<Vec<u8>> {
     ///
     /// # Errors
     ///
-    /// Those of `from_chars`. `ShortBuf` is only returned if an allocation failed.
+    /// Returns the errors of `from_chars`. `ShortBuf` is only returned if an allocation failed.
     #[inline(always)]
     pub fn vec_from_str(alloc: Global, text: &str) -> Result<Self, FromStrError>
         ensures { ReadsNameText name_labels None (chars text.now) result }
@@ -185,7 +185,7 @@ impl RelativeName<Vec<u8>> {
     ///
     /// # Errors
     ///
-    /// Those of `from_chars`. `ShortBuf` is only returned if an allocation failed.
+    /// Returns the errors of `from_chars`. `ShortBuf` is only returned if an allocation failed.
     #[inline(always)]
     pub fn vec_from_str(alloc: Global, text: &str) -> Result<Self, RelativeFromStrError>
         ensures { ReadsRelativeText relative_labels None (chars text.now) result }

@@ -145,7 +145,7 @@ impl<'a> ParsedName<&'a [u8]> {
     ///
     /// # Errors
     ///
-    /// Those of `parse`. The parser is then unchanged.
+    /// Returns the errors of `parse`. The parser is then unchanged.
     #[inline(always)]
     pub fn parse_ref(parser: &mut Parser<'a>) -> Result<ParsedName<&'a [u8]>, ParseError>
         ensures { ParsesName max_pointers parser.old parser.new result }
@@ -158,8 +158,8 @@ impl<'a> ParsedName<&'a [u8]> {
     ///
     /// # Errors
     ///
-    /// Those of `parse`, with "too many compression pointers" at one pointer more than the limit. The parser is then
-    /// unchanged.
+    /// Returns the errors of `parse`, with "too many compression pointers" at one pointer more than the limit. The
+    /// parser is then unchanged.
     #[inline(always)]
     pub fn parse_with_limit(
         parser: &mut Parser<'a>,
@@ -194,7 +194,8 @@ impl<'a> ParsedName<&'a [u8]> {
     ///
     /// # Errors
     ///
-    /// Those of `parse_with_limit`. The parser is then unchanged, and one more is counted for what failed.
+    /// Returns the errors of `parse_with_limit`. The parser is then unchanged, and one more is counted for what
+    /// failed.
     #[inline(always)]
     pub fn parse_counted<L: Ledger>(
         parser: &mut Parser<'a>,
@@ -596,7 +597,7 @@ impl<const N: usize> ParsedName<ArrayVec<u8, N>> {
     ///
     /// # Errors
     ///
-    /// Never fails.
+    /// This call never fails.
     pub fn clone(&self, alloc: Global) -> Result<ParsedName<ArrayVec<u8, N>>, ShortBuf>
         ensures ok { IfOk result (λ name. parsed_model name ≡ parsed_model self.now) }
         ensures made { IsOk result }

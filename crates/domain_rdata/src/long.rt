@@ -6,8 +6,7 @@ use domain_wire::ParseError;
 use std::error::Error;
 use std::fmt;
 
-/// Record data has more than 65,535 octets, which is the most that its length of 16 bits can tell
-/// (RFC 1035, 3.2.1).
+/// Record data has more than 65,535 octets, which is the most that its length of 16 bits can state (RFC 1035, 3.2.1).
 #[derive(Clone, Copy, Debug)]
 pub struct LongRecordData;
 

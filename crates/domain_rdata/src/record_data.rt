@@ -99,8 +99,8 @@ pub trait RecordData {
 
 /// Record data that can be composed.
 ///
-/// A type says by `composed` which octets may be appended: those of its fields one after the other,
-/// where a target may write a name shorter. So a type owes nothing to any kind of target.
+/// A type says by `composed` which octets may be appended: those of its fields one after the other, where a target may
+/// write a name shorter. So a type proves nothing about any kind of target.
 pub trait ComposeRecordData: RecordData {
     /// The octets that may be appended to these octets of a target, which may write names shorter or
     /// not.
@@ -176,12 +176,11 @@ pub trait ComposeRecordData: RecordData {
 
     /// Appends the length of the data in two octets, and the data, or nothing.
     ///
-    /// A target that compresses names is left to do so, unless no length would then be right. In that case no name is
-    /// compressed.
+    /// The target may compress names. If no length would then be right, no name is compressed.
     ///
     /// # Errors
     ///
-    /// - `Long` only if the data has more than 65,535 octets as the target writes it. Where no length would be right,
+    /// - `Long` only if the data has more than 65,535 octets as the target writes it. If no length would be right,
     ///   these are the octets with no name compressed.
     /// - `Append` only if the data with no name compressed exceeds, with its length, the spare capacity.
     ///
@@ -269,7 +268,7 @@ pub trait ComposeRecordData: RecordData {
     ghost writes_composed: { (it : Self) → WritesComposed (written it) (composed it) };
 }
 
-/// Record data that tells whether its canonical form is known.
+/// Record data that says whether its canonical form is known.
 pub trait CanonicalRecordData: ComposeRecordData {
     /// Whether the canonical call appends the canonical form: the type has no names in lowercase there, or it is known
     /// which octets of the data are names.

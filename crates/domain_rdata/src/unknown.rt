@@ -115,7 +115,7 @@ impl<const N: usize> UnknownRecordData<ArrayVec<u8, N>> {
     ///
     /// # Errors
     ///
-    /// Never fails.
+    /// This call never fails.
     pub fn clone(&self, alloc: Global) -> Result<UnknownRecordData<ArrayVec<u8, N>>, ShortBuf>
         ensures same { IfOk result (λ it. data_octets it ≡ data_octets self.now) }
         ensures of_type { IfOk result (λ it. data_type it ≡ data_type self.now) }
@@ -162,10 +162,10 @@ impl<Octs: Octets> RecordData for UnknownRecordData<Octs> {
 
 /// The octets of the data, whatever the target.
 ///
-/// They are the canonical form too (RFC 3597, 7), but of the types whose names are in lowercase there (RFC 4034, 6.2),
-/// as `knows_names` tells. Data of a type of RFC 1035 that was read from a message may have pointers to names of that
-/// message (RFC 3597, 4). They are octets like others here, and lead elsewhere in another message: read data of these
-/// types by their fields.
+/// They are the canonical form too (RFC 3597, 7), except for the types whose names are in lowercase there (RFC 4034,
+/// 6.2), as `knows_names` says. Data of a type of RFC 1035 that was read from a message may have pointers to names of
+/// that message (RFC 3597, 4). They are octets like others here, and lead elsewhere in another message: read data of
+/// these types by their fields.
 impl<Octs: Octets> ComposeRecordData for UnknownRecordData<Octs> {
     ghost use Rattle.domain_rdata.specs.OctetsAlone.{octets_written};
     ghost use Rattle.domain_rdata.specs.Unknown.{data_octets};

@@ -327,7 +327,7 @@ fn refusal_of(word: &Word, reason: Reason) -> Fault
     }
 }
 
-/// Appends the octets of a field that is written so, and returns the words after its own. The text has so many octets.
+/// Appends the octets of a field that is written so, and returns the words after its own. The text has `len` octets.
 #[tactic(auto, using(crate::proofs::Refusing::one_refused, crate::proofs::Refusing::name_refused))]
 fn take_field<'w>(
     alloc: Global,
@@ -437,7 +437,7 @@ fn take_field<'w>(
     }
 }
 
-/// The octets of fields of these kinds that words are. The text has so many octets.
+/// The octets of fields of these kinds that words are. The text has `len` octets.
 fn fields_of_words(
     alloc: Global,
     origin: Option<&[u8]>,
@@ -463,7 +463,7 @@ fn fields_of_words(
     }
 }
 
-/// The octets of data with fields of these kinds that words are. The text has so many octets.
+/// The octets of data with fields of these kinds that words are. The text has `len` octets.
 fn data_of_words(
     alloc: Global,
     origin: Option<&[u8]>,
@@ -530,7 +530,7 @@ fn first_offset(words: &[Word]) -> usize
     }
 }
 
-/// The octets of data of the type in the class that the words from `\#` on are. The text has so many octets.
+/// The octets of data of the type in the class that the words from `\#` on are. The text has `len` octets.
 fn read_generic(
     alloc: Global,
     rtype: u16,
@@ -614,7 +614,8 @@ pub fn read(alloc: Global, rtype: u16, class: u16, text: &[u8]) -> Result<Vec<u8
 ///
 /// # Errors
 ///
-/// Those of [`read`]. `Name` is also returned at a word whose name has more than 255 octets with those of the origin.
+/// Returns the errors of [`read`]. `Name` is also returned at a word whose name has more than 255 octets with those of
+/// the origin.
 pub fn read_relative_to(
     alloc: Global,
     origin: &[u8],

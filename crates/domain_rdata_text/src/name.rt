@@ -208,8 +208,8 @@ fn push_whole(
     push_labels(refusal, labels.as_slice(), origin, made)
 }
 
-/// Appends the octets of the name that a word is. A relative name goes on with the origin, and `@` is the origin. The
-/// word is refused with the fault that is passed.
+/// Appends the octets of the name that a word is. A relative name is completed by the origin, and `@` is the origin.
+/// The word is refused with the fault that is passed.
 pub(crate) fn push_name(
     alloc: Global,
     refusal: Fault,

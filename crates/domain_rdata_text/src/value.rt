@@ -248,7 +248,7 @@ fn optional_types_value(alloc: Global, octets: &[u8]) -> Result<Value, AllocErro
 pub(crate) enum Open {
     /// Whole strings.
     Between,
-    /// Strings and a part of one, of which so many octets are to come.
+    /// Strings and a part of one, of which this number of octets is to come.
     Inside(u8),
 }
 

@@ -95,7 +95,7 @@ impl<Octs: Octets + Drop> Tag<Octs> {
 impl<Octs: Octets> Tag<Octs> {
     ghost use Rattle.domain_strings.specs.TagViews.{tag_octets};
 
-    /// The octets of the tag, without the one that tells their number.
+    /// The octets of the tag, without the one that states their number.
     pub fn as_slice(&self) -> &[u8]
         ensures octets { result.now ≡ tag_octets self.now }
         ensures tag { IsTag result.now }

@@ -254,7 +254,7 @@ where
 ///
 /// # Errors
 ///
-/// Those of [`absolute_from_chars`] for the characters that spell the symbols.
+/// Returns the errors of [`absolute_from_chars`] for the characters that spell the symbols.
 #[inline(always)]
 pub fn absolute_from_symbols<Octs: FromBuilder + Drop, I: Iterator<Item = Symbol> + Drop>(
     alloc: Global,
@@ -275,7 +275,7 @@ where
 ///
 /// # Errors
 ///
-/// Those of [`absolute_from_chars`].
+/// Returns the errors of [`absolute_from_chars`].
 #[inline(always)]
 pub fn absolute_from_str<Octs: FromBuilder + Drop>(
     alloc: Global,
@@ -295,7 +295,7 @@ where
 ///
 /// # Errors
 ///
-/// Those of [`relative_from_chars`].
+/// Returns the errors of [`relative_from_chars`].
 #[inline(always)]
 pub fn relative_from_str<Octs: FromBuilder + Drop>(
     alloc: Global,
@@ -357,7 +357,7 @@ fn relative_array<const N: usize>(
 ///
 /// # Errors
 ///
-/// Those of [`absolute_from_chars`]. `ShortBuf` is only returned if the octets don't fit.
+/// Returns the errors of [`absolute_from_chars`]. `ShortBuf` is only returned if the octets don't fit.
 #[inline(always)]
 pub fn absolute_into_array<const N: usize>(
     octets: &mut ArrayVec<u8, N>,
@@ -379,7 +379,7 @@ pub fn absolute_into_array<const N: usize>(
 ///
 /// # Errors
 ///
-/// Those of [`relative_from_chars`]. `ShortBuf` is only returned if the octets don't fit.
+/// Returns the errors of [`relative_from_chars`]. `ShortBuf` is only returned if the octets don't fit.
 #[inline(always)]
 pub fn relative_into_array<const N: usize>(
     octets: &mut ArrayVec<u8, N>,

@@ -78,7 +78,7 @@ pub fn read_all<R: Read>(alloc: Global, input: &mut R) -> Result<Vec<u8>, ToolEr
 ///
 /// # Errors
 ///
-/// Those of `ParsedName::parse`. An offset past the end is `ShortInput`.
+/// Returns the errors of `ParsedName::parse_with_limit`. An offset past the end is `ShortInput`.
 pub fn parse_at(message: &[u8], offset: u32, limit: u8) -> Result<ParsedName<&[u8]>, ParseError>
     ensures ok { IfOk result (λ name. Names limit message.now offset (parsed_labels name)) }
     ensures err { IfErr result (λ e. NoNameWithin limit message.now offset e) }
@@ -167,7 +167,7 @@ pub fn name_at<R: Read, W: Write>(
 ///
 /// # Errors
 ///
-/// Those of `name_at`, with "too many compression pointers" at one pointer more than the limit.
+/// Returns the errors of `name_at`, with "too many compression pointers" at one pointer more than the limit.
 pub fn name_at_with_limit<R: Read, W: Write>(
     alloc: Global,
     input: &mut R,

@@ -32,7 +32,7 @@ pub trait FlattenInto<Target>: Sized {
     ///
     /// # Errors
     ///
-    /// Those of `try_flatten_into`.
+    /// Returns the errors of `try_flatten_into`.
     ///
     /// # Examples
     ///

@@ -50,7 +50,7 @@ pub trait ToName<'a>: AbsoluteLabels<'a> {
     ///
     /// # Errors
     ///
-    /// Those of `try_to_name`.
+    /// Returns the errors of `try_to_name`.
     ///
     /// # Examples
     ///
@@ -89,7 +89,7 @@ pub trait ToName<'a>: AbsoluteLabels<'a> {
     ///
     /// # Errors
     ///
-    /// Those of `try_to_name`.
+    /// Returns the errors of `try_to_name`.
     final fn try_to_canonical_name<Octs: FromBuilder + Drop>(
         &'a self,
         alloc: Global,
@@ -107,7 +107,7 @@ pub trait ToName<'a>: AbsoluteLabels<'a> {
     ///
     /// # Errors
     ///
-    /// Those of `try_to_canonical_name`.
+    /// Returns the errors of `try_to_canonical_name`.
     final fn to_canonical_name<Octs: FromBuilder + Drop>(
         &'a self,
         alloc: Global,
@@ -200,7 +200,7 @@ pub trait ToName<'a>: AbsoluteLabels<'a> {
     ///
     /// # Errors
     ///
-    /// Those of `compose`. The octets of the target are then unchanged.
+    /// Returns the errors of `compose`. The octets of the target are then unchanged.
     final fn compose_canonical<Target: OctetsBuilder>(
         &'a self,
         target: &mut Target,

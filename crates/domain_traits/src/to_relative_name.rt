@@ -47,7 +47,7 @@ pub trait ToRelativeName<'a>: RelativeLabels<'a> {
     ///
     /// # Errors
     ///
-    /// Those of `try_to_relative_name`.
+    /// Returns the errors of `try_to_relative_name`.
     final fn to_relative_name<Octs: FromBuilder + Drop>(
         &'a self,
         alloc: Global,
@@ -70,7 +70,7 @@ pub trait ToRelativeName<'a>: RelativeLabels<'a> {
     ///
     /// # Errors
     ///
-    /// Those of `try_to_relative_name`.
+    /// Returns the errors of `try_to_relative_name`.
     final fn try_to_canonical_relative_name<Octs: FromBuilder + Drop>(
         &'a self,
         alloc: Global,
@@ -88,7 +88,7 @@ pub trait ToRelativeName<'a>: RelativeLabels<'a> {
     ///
     /// # Errors
     ///
-    /// Those of `try_to_canonical_relative_name`.
+    /// Returns the errors of `try_to_canonical_relative_name`.
     final fn to_canonical_relative_name<Octs: FromBuilder + Drop>(
         &'a self,
         alloc: Global,
@@ -165,7 +165,7 @@ pub trait ToRelativeName<'a>: RelativeLabels<'a> {
     ///
     /// # Errors
     ///
-    /// Those of `compose`. The octets of the target are then unchanged.
+    /// Returns the errors of `compose`. The octets of the target are then unchanged.
     final fn compose_canonical<Target: OctetsBuilder>(
         &'a self,
         target: &mut Target,

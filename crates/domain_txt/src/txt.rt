@@ -91,7 +91,7 @@ impl From<TxtError> for ParseError {
 
 /// Text: one character string or more, each of at most 255 octets of any values (RFC 1035, 3.3.14).
 ///
-/// It has at most 65,535 octets, those that tell the lengths of the strings among them. Two are equal, and in order,
+/// It has at most 65,535 octets, those that state the lengths of the strings among them. Two are equal, and in order,
 /// as these octets are: the same text in other strings is other data.
 pub struct Txt<Octs: Octets> {
     octets: Octs,
@@ -151,7 +151,7 @@ impl<Octs: Octets> Txt<Octs> {
         TxtIter::new(self.octets.as_slice())
     }
 
-    /// The octets of the data: each string after an octet that tells its length.
+    /// The octets of the data: each string after an octet that states its length.
     pub fn as_slice(&self) -> &[u8]
         ensures { result.now ≡ txt_octets self.now }
     {
@@ -172,7 +172,7 @@ impl<Octs: Octets> Txt<Octs> {
         None
     }
 
-    /// How many octets the data has, those that tell the lengths of the strings among them.
+    /// Returns how many octets the data has, those that state the lengths of the strings among them.
     pub fn len(&self) -> usize
         ensures { result ≡ length (txt_octets self.now) }
     {
@@ -209,7 +209,7 @@ impl<Octs: Octets> Txt<Octs> {
     ///
     /// # Errors
     ///
-    /// Those of `text`. Exactly one failed allocation is then counted.
+    /// Returns the errors of `text`. Exactly one failed allocation is then counted.
     pub fn text_counted<L: Ledger>(
         &self,
         alloc: Global,

@@ -57,7 +57,7 @@ impl<'a> TxtIter<'a> {
     }
 }
 
-/// The octets of each string, without the one that tells their number.
+/// The octets of each string, without the one that states their number.
 impl<'a> Iterator for TxtIter<'a> {
     ghost use Rattle.std.specs.Iterator.{YieldsFirstBy, item_count};
     ghost use Rattle.domain_txt.specs.TxtViews.{string_of, strings_left};

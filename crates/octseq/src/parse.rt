@@ -9,7 +9,7 @@ use std::error::Error;
 use std::fmt;
 use std::ops::Range;
 
-/// Fewer octets were left before the end than a call was to read or pass.
+/// Fewer octets remain before the end than a call was to read or skip.
 #[derive(Clone, Copy, Debug, PartialEq, Eq)]
 pub struct ShortInput;
 
@@ -93,7 +93,7 @@ impl<'a> Parser<'a> {
         self.pos
     }
 
-    /// How many octets are left.
+    /// Returns how many octets remain.
     pub fn remaining(&self) -> usize
         ensures { result ≡ length (left self.now) }
     {
