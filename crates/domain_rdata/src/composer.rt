@@ -19,18 +19,18 @@ pub trait Composer: OctetsBuilder + OctetsMut {
     /// Whether names may be written shorter than their wire format. Where it is true they needn't be.
     ghost compresses: { Bool };
 
-    /// What the composer remembers of the names that it wrote, where octets alone don't say it: with the octets it
+    /// What the composer remembers of the names that it wrote, where octets alone don't tell: with the octets it
     /// decides what may be appended.
     ghost Memory: { Type 0 };
 
     ghost memory: { Self → Memory };
 
-    /// What is still remembered after truncating the octets to this many.
+    /// What is left of what was remembered where the octets are cut to so many.
     ghost kept_within: { ℕ → Memory → Memory };
 
     /// What the composer becomes where the labels of an absolute name were appended: by the law `appended` octets that
-    /// may be appended came to its own, and by `name_forgotten` a cut before them forgets the name. What else it
-    /// states is up to the composer.
+    /// may be appended came to its own, and by `name_forgotten` a cut before them forgets the name. What else it tells
+    /// is the composer's own affair.
     ghost appends: { Self → List (List ℕ) → Self → Type 0 };
 
     /// Appends octets that are permitted for the name with this wire format, or nothing.
