@@ -208,7 +208,7 @@ impl<T: Composer> OctetsBuilder for CompressComposer<T> {
     ///
     /// # Errors
     ///
-    /// Returns the errors of the target.
+    /// Returns the target's error. The octets are then unchanged.
     fn append_slice(&mut self, slice: &[u8]) -> Result<(), T::AppendError>
         ensures ok { OnOk result (octets_of self.new ≡ octets_of self.old ++ slice.now) }
         ensures unchanged { OnErr result (octets_of self.new ≡ octets_of self.old) }

@@ -147,7 +147,7 @@ pub fn write_line<D: fmt::Display + Drop, W: Write>(
 /// # Errors
 ///
 /// Returns `Parse` if there is no name at the offset, with the error of `ParsedName::parse`. An offset past the input
-/// is `ShortInput`. Nothing is then written.
+/// is `ShortInput`. Nothing is written then, nor after `Read`.
 pub fn name_at<R: Read, W: Write>(
     alloc: Global,
     input: &mut R,
@@ -167,7 +167,8 @@ pub fn name_at<R: Read, W: Write>(
 ///
 /// # Errors
 ///
-/// Returns the errors of `name_at`, with "too many compression pointers" at one pointer more than the limit.
+/// Returns the errors of `name_at`, with "too many compression pointers" at one pointer more than the limit. Nothing
+/// is written after `Parse` or `Read`.
 pub fn name_at_with_limit<R: Read, W: Write>(
     alloc: Global,
     input: &mut R,
