@@ -157,8 +157,12 @@ impl<Octs: Octets> TypeBitmaps<Octs> {
     }
 }
 
-/// Reads all remaining octets, which must be bitmaps. The errors are those of [`TypeBitmaps::from_octets`], two of
-/// them as form errors. If more than 65,535 octets remain, the form error is "record data too long".
+/// Reads all remaining octets, which must be bitmaps.
+///
+/// # Errors
+///
+/// Returns the errors of [`TypeBitmaps::from_octets`], two of them as form errors. If more than 65,535 octets remain,
+/// the form error is "record data too long".
 impl<'a> ReadField<'a, ParseError> for TypeBitmaps<&'a [u8]> {
     ghost use Rattle.domain_dnssec.specs.BitmapViews.{bitmaps_blocks};
 

@@ -72,8 +72,11 @@ impl<'a> RecordData for OptData<'a> {
     }
 }
 
-/// Takes the rest of the octets, for the type OPT alone. There is no error: options that are cut off are reported when
-/// they are read.
+/// Takes the rest of the octets, for the type OPT alone.
+///
+/// # Errors
+///
+/// There is none: options that are cut off are reported when they are read.
 impl<'a> ParseRecordData<'a> for OptData<'a> {
     ghost use Rattle.domain_message.specs.OptDataViews.{opt_octets};
 

@@ -97,8 +97,11 @@ impl<'a> RecordData for TsigData<'a> {
     }
 }
 
-/// Takes the rest of the octets, for the type TSIG alone. There is no error: data of another form is reported when its
-/// fields are read.
+/// Takes the rest of the octets, for the type TSIG alone.
+///
+/// # Errors
+///
+/// There is none: data of another form is reported when its fields are read.
 impl<'a> ParseRecordData<'a> for TsigData<'a> {
     ghost use Rattle.domain_message.specs.TsigRecords.{tsig_octets};
 

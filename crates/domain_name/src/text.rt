@@ -127,8 +127,11 @@ impl Name<Vec<u8>> {
     }
 }
 
-/// Reads an absolute name from text, as `from_chars` does. `ShortBuf` exactly where a name has more than
-/// `N` octets.
+/// Reads an absolute name from text, as `from_chars` does.
+///
+/// # Errors
+///
+/// Returns the errors of `from_chars`. `ShortBuf` is returned exactly when a name has more than `N` octets.
 impl<const N: usize> FromStr for Name<ArrayVec<u8, N>> {
     type Err = FromStrError;
 
@@ -197,8 +200,11 @@ impl RelativeName<Vec<u8>> {
     }
 }
 
-/// Reads a relative name from text, as `from_chars` does. `ShortBuf` exactly where a name has more than `N`
-/// octets.
+/// Reads a relative name from text, as `from_chars` does.
+///
+/// # Errors
+///
+/// Returns the errors of `from_chars`. `ShortBuf` is returned exactly when a name has more than `N` octets.
 impl<const N: usize> FromStr for RelativeName<ArrayVec<u8, N>> {
     type Err = RelativeFromStrError;
 

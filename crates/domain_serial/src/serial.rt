@@ -137,7 +137,11 @@ impl From<Timestamp> for Serial {
     }
 }
 
-/// The texts that `u32` is read from, and its errors.
+/// Reads the texts that `u32` is read from.
+///
+/// # Errors
+///
+/// Returns the errors of `u32`.
 impl FromStr for Serial {
     type Err = ParseIntError;
 

@@ -90,7 +90,11 @@ impl<Octs: Octets> CharString<Octs> {
     }
 }
 
-/// One octet, and as many as it states. `ShortInput` if fewer remain.
+/// One octet, and as many as it states.
+///
+/// # Errors
+///
+/// Returns `ShortInput` if fewer remain.
 impl<'a> ReadField<'a, ParseError> for CharString<&'a [u8]> {
     ghost use Rattle.domain_strings.specs.Views.{char_octets};
 

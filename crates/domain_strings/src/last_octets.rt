@@ -88,7 +88,11 @@ impl<const TEXT: u8, Octs: Octets> LastOctets<TEXT, Octs> {
     }
 }
 
-/// Reads all remaining octets. Returns a form error "record data too long" if they are more than 65,535.
+/// Reads all remaining octets.
+///
+/// # Errors
+///
+/// Returns a form error "record data too long" if there are more than 65,535.
 impl<'a, const TEXT: u8> ReadField<'a, ParseError> for LastOctets<TEXT, &'a [u8]> {
     ghost use Rattle.domain_strings.specs.Views.{last_octets};
 

@@ -104,7 +104,11 @@ impl<Octs: Octets> Tag<Octs> {
     }
 }
 
-/// A character string that is a tag. A form error "invalid tag" where it is none.
+/// A character string that is a tag.
+///
+/// # Errors
+///
+/// Returns a form error "invalid tag" if it is none.
 impl<'a> ReadField<'a, ParseError> for Tag<&'a [u8]> {
     ghost use Rattle.domain_strings.specs.TagViews.{tag_octets};
 

@@ -167,9 +167,12 @@ impl<Octs: Octets> SvcParams<Octs> {
     }
 }
 
-/// Reads all remaining octets, which must be parameters. The errors are those of [`SvcParams::from_octets`].
-/// `KeyOrder` is a form error "keys of parameters out of order". If more than 65,535 octets remain, the form error is
-/// "record data too long".
+/// Reads all remaining octets, which must be parameters.
+///
+/// # Errors
+///
+/// Returns the errors of [`SvcParams::from_octets`]. `KeyOrder` is a form error "keys of parameters out of order". If
+/// more than 65,535 octets remain, the form error is "record data too long".
 impl<'a> ReadField<'a, ParseError> for SvcParams<&'a [u8]> {
     ghost use Rattle.domain_svcb.specs.ParamsViews.{params_of};
 
