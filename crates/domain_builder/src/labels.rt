@@ -182,7 +182,7 @@ impl<B: OctetsBuilder + OctetsMut> LabelsBuilder<B> {
     /// Returns the first of these that holds:
     /// - `LongName` if there would be more than 254 octets before the root;
     /// - `LongLabel` if the label would have more than 63 octets;
-    /// - `ShortBuf` if it doesn't fit or an allocation failed.
+    /// - `ShortBuf` if the octet doesn't fit or an allocation failed.
     ///
     /// What was built is then unchanged.
     #[inline(always)]
@@ -210,7 +210,7 @@ impl<B: OctetsBuilder + OctetsMut> LabelsBuilder<B> {
     /// Returns the first of these that holds:
     /// - `LongLabel` if the label would have more than 63 octets;
     /// - `LongName` if there would be more than 254 octets before the root;
-    /// - `ShortBuf` if they don't fit or an allocation failed.
+    /// - `ShortBuf` if the octets don't fit or an allocation failed.
     ///
     /// What was built is then unchanged.
     #[tactic(auto, using(crate::proofs::Building::nothing_pushed))]
@@ -256,7 +256,7 @@ impl<B: OctetsBuilder + OctetsMut> LabelsBuilder<B> {
     /// Returns the first of these that holds:
     /// - `LongLabel` if the slice has more than 63 octets;
     /// - `LongName` if there would be more than 254 octets before the root;
-    /// - `ShortBuf` if they don't fit or an allocation failed.
+    /// - `ShortBuf` if the octets don't fit or an allocation failed.
     ///
     /// What was built is then unchanged.
     #[tactic(auto, using(crate::proofs::Building::size_labelled, crate::proofs::Building::labelled_nothing))]
@@ -311,7 +311,7 @@ impl<B: OctetsBuilder + OctetsMut> LabelsBuilder<B> {
     ///
     /// Returns the first of these that holds:
     /// - `LongName` if there would be more than 254 octets before the root;
-    /// - `ShortBuf` if they don't fit or an allocation failed.
+    /// - `ShortBuf` if the octets don't fit or an allocation failed.
     ///
     /// What was built is then unchanged.
     pub fn append_dec_u8_label(&mut self, value: u8) -> Result<(), PushError>
@@ -340,7 +340,7 @@ impl<B: OctetsBuilder + OctetsMut> LabelsBuilder<B> {
     ///
     /// Returns the first of these that holds:
     /// - `LongName` if there would be more than 254 octets before the root;
-    /// - `ShortBuf` if they don't fit or an allocation failed.
+    /// - `ShortBuf` if the octets don't fit or an allocation failed.
     ///
     /// What was built is then unchanged.
     pub fn append_hex_digit_label(&mut self, nibble: u8) -> Result<(), PushError>
@@ -360,7 +360,7 @@ impl<B: OctetsBuilder + OctetsMut> LabelsBuilder<B> {
     ///
     /// Returns the first of these that holds:
     /// - `LongName` if there would be more than 254 octets before the root;
-    /// - `ShortBuf` if they don't fit or an allocation failed.
+    /// - `ShortBuf` if the octets don't fit or an allocation failed.
     ///
     /// What was built is then unchanged.
     #[tactic(auto, using(crate::proofs::Building::size_named))]
@@ -390,7 +390,7 @@ impl<B: OctetsBuilder + OctetsMut> LabelsBuilder<B> {
     ///
     /// Returns the first of these that holds:
     /// - `LongName` if there would be more than 254 octets before the root;
-    /// - `ShortBuf` if they don't fit or an allocation failed.
+    /// - `ShortBuf` if the octets don't fit or an allocation failed.
     ///
     /// What was built is then unchanged.
     #[tactic(auto, using(crate::proofs::Building::size_named_wire))]
@@ -486,7 +486,7 @@ where
     ///
     /// Returns the first of these that holds:
     /// - `LongName` if there would be more than 255 octets;
-    /// - `ShortBuf` if they don't fit or an allocation failed.
+    /// - `ShortBuf` if the octets don't fit or an allocation failed.
     pub fn append_origin<'a, N: AbsoluteLabels<'a>>(
         self,
         origin: &'a N,

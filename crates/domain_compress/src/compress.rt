@@ -208,7 +208,8 @@ impl<T: Composer> OctetsBuilder for CompressComposer<T> {
     ///
     /// # Errors
     ///
-    /// Returns the target's error. The octets are then unchanged.
+    /// Returns the target's error only if the octets exceed its spare capacity. The octets of the target are then
+    /// unchanged.
     fn append_slice(&mut self, slice: &[u8]) -> Result<(), T::AppendError>
         ensures ok { OnOk result (octets_of self.new ≡ octets_of self.old ++ slice.now) }
         ensures unchanged { OnErr result (octets_of self.new ≡ octets_of self.old) }

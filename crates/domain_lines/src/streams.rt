@@ -91,7 +91,7 @@ pub trait Sink {
     ///
     /// # Errors
     ///
-    /// Returns an error if that failed.
+    /// Returns an error if sending failed.
     fn send(&mut self) -> Result<(), WriteFault>
         ensures kept { OnOk result (Keeps (contents self.old) (contents self.new)) }
         ensures sent { OnOk result (sent self.new) }

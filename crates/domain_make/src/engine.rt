@@ -122,7 +122,7 @@ fn send_octets<W: Sink>(octets: &[u8], hex: bool, output: &mut W) -> Result<(), 
 /// # Errors
 ///
 /// - `Line` with the first line that isn't taken, and why, as of `make_message`. Nothing is then written.
-/// - `Read` and `Write` only if the stream failed.
+/// - `Read` and `Write` only if the stream failed. Nothing is written after `Read`.
 /// - `Memory` if an allocation failed, for the input, or for the message after all of the input was read. Nothing is
 ///   then written.
 pub fn make<R: Source, W: Sink>(

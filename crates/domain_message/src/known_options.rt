@@ -123,7 +123,7 @@ impl<'a> Cookie<'a> {
     ///
     /// # Errors
     ///
-    /// If the code is 10, returns
+    /// If the code is 10, returns:
     /// - `ShortInput` exactly when the option has fewer than 8 octets;
     /// - a form error exactly when it has 9 to 15 or more than 40.
     ///
@@ -160,7 +160,8 @@ impl<'a> Cookie<'a> {
     ///
     /// # Errors
     ///
-    /// Returns a form error if the client's hasn't 8 octets, or else the server's has fewer than 8 or more than 32.
+    /// Returns a form error if the client's cookie doesn't have 8 octets, or else the server's has fewer than 8 or
+    /// more than 32.
     pub fn check(&self) -> Result<(), ParseError>
         ensures ok { OnOk result (CanBeWritten self.now) }
         ensures err { IfErr result (λ e. CannotBeWritten self.now (refusal e)) }

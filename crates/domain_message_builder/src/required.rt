@@ -21,7 +21,7 @@ impl<Target: Composer> MessageBuilder<Target> {
     ///
     /// # Errors
     ///
-    /// Returns the error of `push_rrset` if it isn't for lack of room. Nothing is then changed.
+    /// Returns the error of `push_rrset` if it isn't for lack of room. The message is then unchanged.
     pub fn push_required<'a, N: AbsoluteLabels<'a>, D: ComposeRecordData>(
         &mut self,
         section: Section,
@@ -63,7 +63,7 @@ impl<Target: Composer> MessageBuilder<Target> {
     ///
     /// # Errors
     ///
-    /// Returns the error of `push_rrset` if it isn't for lack of room. Nothing is then changed.
+    /// Returns the error of `push_rrset` if it isn't for lack of room. The message is then unchanged.
     pub fn push_extra<'a, N: AbsoluteLabels<'a>, D: ComposeRecordData>(
         &mut self,
         section: Section,

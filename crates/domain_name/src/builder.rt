@@ -221,7 +221,7 @@ impl<B: OctetsBuilder + OctetsMut> NameBuilder<B> {
     /// Returns the first of these that holds:
     /// - `LongName` if there would be more than 254 octets before the root;
     /// - `LongLabel` if the label would have more than 63 octets;
-    /// - `ShortBuf` if it doesn't fit or an allocation failed.
+    /// - `ShortBuf` if the octet doesn't fit or an allocation failed.
     ///
     /// What was built is then unchanged.
     #[inline(always)]
@@ -243,7 +243,7 @@ impl<B: OctetsBuilder + OctetsMut> NameBuilder<B> {
     /// Returns the first of these that holds:
     /// - `LongLabel` if the label would have more than 63 octets;
     /// - `LongName` if there would be more than 254 octets before the root;
-    /// - `ShortBuf` if they don't fit or an allocation failed.
+    /// - `ShortBuf` if the octets don't fit or an allocation failed.
     ///
     /// What was built is then unchanged.
     #[inline(always)]
@@ -275,7 +275,7 @@ impl<B: OctetsBuilder + OctetsMut> NameBuilder<B> {
     /// Returns the first of these that holds:
     /// - `LongLabel` if the label has more than 63 octets;
     /// - `LongName` if there would be more than 254 octets before the root;
-    /// - `ShortBuf` if they don't fit or an allocation failed.
+    /// - `ShortBuf` if the octets don't fit or an allocation failed.
     ///
     /// What was built is then unchanged.
     #[inline(always)]
@@ -295,7 +295,7 @@ impl<B: OctetsBuilder + OctetsMut> NameBuilder<B> {
     ///
     /// Returns the first of these that holds:
     /// - `LongName` if there would be more than 254 octets before the root;
-    /// - `ShortBuf` if they don't fit or an allocation failed.
+    /// - `ShortBuf` if the octets don't fit or an allocation failed.
     ///
     /// What was built is then unchanged.
     pub fn append_dec_u8_label(&mut self, value: u8) -> Result<(), PushError>
@@ -314,7 +314,7 @@ impl<B: OctetsBuilder + OctetsMut> NameBuilder<B> {
     ///
     /// Returns the first of these that holds:
     /// - `LongName` if there would be more than 254 octets before the root;
-    /// - `ShortBuf` if they don't fit or an allocation failed.
+    /// - `ShortBuf` if the octets don't fit or an allocation failed.
     ///
     /// What was built is then unchanged.
     pub fn append_hex_digit_label(&mut self, nibble: u8) -> Result<(), PushError>
@@ -335,7 +335,7 @@ impl<B: OctetsBuilder + OctetsMut> NameBuilder<B> {
     ///
     /// Returns the first of these that holds:
     /// - `LongName` if there would be more than 254 octets before the root;
-    /// - `ShortBuf` if they don't fit or an allocation failed.
+    /// - `ShortBuf` if the octets don't fit or an allocation failed.
     ///
     /// What was built is then unchanged.
     pub fn append_name<'a, N: RelativeLabels<'a>>(
@@ -489,7 +489,7 @@ where
     ///
     /// Returns the first of these that holds:
     /// - `LongName` if there would be more than 255 octets;
-    /// - `ShortBuf` if they don't fit or an allocation failed.
+    /// - `ShortBuf` if the octets don't fit or an allocation failed.
     pub fn append_origin<'a, N: AbsoluteLabels<'a>>(
         self,
         origin: &'a N,

@@ -26,7 +26,7 @@ const MAX_NAME_LEN: usize = 255;
 /// # Errors
 ///
 /// Returns the first [`NameFault`] on the way. At most 128 labels and pointers more than the limit were then counted.
-/// `progress` and the table have no specified value.
+/// `progress` and the table then have no specified value.
 #[inline(always)]
 pub fn read_name_counted<L: Ledger>(
     message: &[u8],

@@ -102,8 +102,8 @@ fn list_message<W: Write>(
 ///
 /// # Errors
 ///
-/// - `Parse` if the header or an entry is missing, with the error of its name, else `ShortInput`. The lines of the
-///   entries before it are then written.
+/// - `Parse` if the header or an entry is missing: with the error of the entry's name, else with `ShortInput`. The
+///   lines of the entries before it are then written.
 /// - `Read` if the input couldn't be read. Nothing is then written.
 pub fn list<R: Read, W: Write>(
     alloc: Global,

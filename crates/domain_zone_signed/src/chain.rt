@@ -90,7 +90,7 @@ fn is_new(answers: &[AnswerRrset<'_>], set: &AnswerRrset<'_>) -> bool
 ///
 /// # Errors
 ///
-/// `AllocError` where an allocation failed. `answers` is then unchanged.
+/// Returns `AllocError` if an allocation failed. `answers` is then unchanged.
 pub(crate) fn push_new<'a>(
     answers: &mut Vec<AnswerRrset<'a>>,
     set: AnswerRrset<'a>,
