@@ -3,11 +3,13 @@ pub mod Ascending
 pub mod Chains
 pub mod Cutting
 pub mod Enclosing
+pub mod FirstCuts
 pub mod Good
 pub mod Had
 pub mod Leading
 pub mod Leaves
 pub mod Neighbours
 pub mod Owned
+pub mod SettingCuts
 pub mod Sources
 pub mod Substituting

@@ -1,5 +1,6 @@
 pub mod Builders
 pub mod Building
+pub mod Cuts
 pub mod Entries
 pub mod ErrorText
 pub mod Faults
