@@ -138,7 +138,7 @@ first_had z n c t from = elim (first_cut z n) [
   | inl f ↦
       let e : SameLabels f.0 c = had t (dec_same f.0 c) (λ p. one_cut z n f.0 c f.1 (from p)) in
       (cut_same z f.0 c e f.1.0, ends_same n f.0 c e f.1.1, λ d k g. ends_same d f.0 c e (f.1.2 d k g))
-  | inr no ↦ absurd (not_there t (λ p. no c (from p).0 (from p).1))
+  | inr none ↦ absurd (not_there t (λ p. none c (from p).0 (from p).1))
 ]
 
 module _ (z : Zone) (n : List (List ℕ)) (c : ℕ) where

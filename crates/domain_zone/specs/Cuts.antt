@@ -2,10 +2,11 @@
 use Rattle.std.specs.Prelude.{◌≡◌, ℕ, ◌<◌, ◌≤◌, ◌-◌, ◌⊎◌, List, length, slice_index_or}
 use Rattle.std.specs.List.{All}
 use Rattle.octseq.specs.declared.octets.Octets.{Ghosts}
+use Rattle.domain_list.specs.Ends.{EndsWith}
 use Rattle.domain_name.specs.Names.{name_labels}
 use Rattle.domain_name.specs.declared.absolute.Name.{Name}
 use Rattle.domain_zone.specs.Records.{records_view}
-use Rattle.domain_zone_laws.specs.Zone.{Zone, RRset, HasNoCut, IsFirstCut, NS}
+use Rattle.domain_zone_laws.specs.Zone.{Zone, RRset, IsCut, HasNoCut, IsFirstCut, NS}
 use Rattle.domain_zone_laws.specs.declared.zone.ZoneRecords.{ZoneRecords}
 
 -- The number c tells the first cut on the way from the apex down to n (RFC 1034, 4.2.1 and 4.3.2, step 3b): the RRset
@@ -25,3 +26,8 @@ TellsCutBefore z i c =
 -- Each RRset has the number that tells the first cut on the way to its owner.
 abbrev pub TellsCuts : {O : Type 0} {g : Ghosts O} → ZoneRecords (Name O g) → Type 0
 TellsCuts z = All (λ s. TellsCut (records_view z) (name_labels s.owner) s.cut) z.sets.items
+
+-- Each cut on the way to q is on the way to the owner of the RRset at the index i.
+abbrev pub IsUnderCutsOf : Zone → List (List ℕ) → ℕ → Type 0
+IsUnderCutsOf z q i = (c : List (List ℕ)) → IsCut z c → EndsWith q c →
+    (i < length z.rrsets) × ((d : RRset) → EndsWith (slice_index_or z.rrsets i d).owner c)

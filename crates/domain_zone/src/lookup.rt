@@ -1,6 +1,7 @@
 //! Questions to a zone.
-ghost use Rattle.std.specs.Prelude.{◌≡◌, ℕ, List};
+ghost use Rattle.std.specs.Prelude.{◌≡◌, ◌-◌, IsTrue, ℕ, List};
 ghost use Rattle.domain_name.specs.Names.{name_labels};
+ghost use Rattle.domain_zone.specs.Cuts.{TellsCuts};
 ghost use Rattle.domain_zone.specs.Kept.{zone_view};
 ghost use Rattle.domain_zone.specs.Outcomes.{outcome_of};
 ghost use Rattle.domain_zone.specs.Records.{records_view};
@@ -14,7 +15,7 @@ mod outcome;
 mod referral;
 
 use crate::kept::Zone;
-use crate::lookup::encloser::is_beside;
+use crate::lookup::encloser::is_below_at;
 use crate::lookup::nonexistent::lookup_nonexistent;
 use crate::names::Owner;
 use domain_list::laws::order_laws;
@@ -25,6 +26,17 @@ use domain_zone_laws::zone::ZoneRecords;
 pub use encloser::{Wildcard, source_of_synthesis};
 pub use outcome::{Answer, Substitution};
 
+/// Which RRset tells the cuts over a name: the one at its place where it exists, else the one before that.
+fn near(place: usize, exists: bool) -> usize
+    ensures exists { IsTrue exists → result ≡ place }
+    ensures missing { (IsTrue exists → ⊥) → result ≡ place - 1 }
+{
+    if exists {
+        return place;
+    }
+    place.saturating_sub(1)
+}
+
 /// What the records of a zone answer.
 fn lookup_records<'a>(
     records: &'a ZoneRecords<Owner>,
@@ -33,6 +45,7 @@ fn lookup_records<'a>(
 ) -> Answer<'a>
     requires zone { IsZone (records_view records.now) }
     requires sorted { IsSorted (records_view records.now) }
+    requires cuts { TellsCuts records.now }
     ensures { Answers (records_view records.now) (name_labels name.now) rtype (outcome_of result) }
 {
     order_laws();
@@ -40,10 +53,11 @@ fn lookup_records<'a>(
         return Answer::OutOfZone;
     }
     let at = place_of(records, name, 0);
-    if let Some(cut) = referral::referral(records, at, name, rtype) {
+    let exists = is_below_at(records, at, name);
+    if let Some(cut) = referral::referral(records, near(at, exists), name, rtype) {
         return Answer::Referral(cut);
     }
-    if is_beside(records, at, name) {
+    if exists {
         return Answer::Found(reply_at(records, name, rtype));
     }
     lookup_nonexistent(records, at, name, rtype)

@@ -40,7 +40,7 @@ no_more Equal h = inr refl
 no_more Greater h = absurd (h refl)
 
 -- a set before a place, or the last of them
-before_place : DescendantsAreAdjacent → (z : Zone) (q a : List (List ℕ)) (t i k : ℕ) (s d : RRset) → IsSorted z → IsPlace z q t i → k < length z.rrsets → slice_index_or z.rrsets k s ≡ s → k < i → i ≤ length z.rrsets
+pub before_place : DescendantsAreAdjacent → (z : Zone) (q a : List (List ℕ)) (t i k : ℕ) (s d : RRset) → IsSorted z → IsPlace z q t i → k < length z.rrsets → slice_index_or z.rrsets k s ≡ s → k < i → i ≤ length z.rrsets
     → EndsWith s.owner a → EndsWith q a → EndsWith (slice_index_or z.rrsets (i - 1) d).owner a
 before_place together z q a t i k s d o p h e l w ends above =
     let at = same_default z.rrsets k s d h e in

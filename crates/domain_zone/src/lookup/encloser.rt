@@ -19,7 +19,7 @@ use domain_zone_laws::find::place_of;
 use domain_zone_laws::zone::ZoneRecords;
 
 /// Whether the RRset at an index is at or below a name.
-fn is_below_at<'a, M: ToLabelIter<'a>>(
+pub(crate) fn is_below_at<'a, M: ToLabelIter<'a>>(
     records: &'a ZoneRecords<Owner>,
     index: usize,
     name: &'a M,
@@ -35,7 +35,7 @@ fn is_below_at<'a, M: ToLabelIter<'a>>(
 }
 
 /// Whether a name is in the zone, and one of the two RRsets beside a place is at or below it.
-pub(crate) fn is_beside<'a, M: ToLabelIter<'a>>(
+fn is_beside<'a, M: ToLabelIter<'a>>(
     records: &'a ZoneRecords<Owner>,
     place: usize,
     name: &'a M,
