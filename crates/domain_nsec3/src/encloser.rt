@@ -33,7 +33,7 @@ pub struct EncloserProof<'n> {
 }
 
 /// Whether a validator uses a record for hashes of this number of iterations and this salt.
-fn is_used_for(record: &HashedRecord<'_>, iterations: u16, salt: &[u8]) -> bool
+pub(crate) fn is_used_for(record: &HashedRecord<'_>, iterations: u16, salt: &[u8]) -> bool
     ensures { IsTrue result ↔ IsUsedFor iterations salt.now record.now }
 {
     record.data.is_usable() && record.data.iterations == iterations && record.data.salt == salt
