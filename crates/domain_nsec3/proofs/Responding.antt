@@ -1,5 +1,5 @@
 -- The records of responses: the closest provable encloser, and what is built on it.
-use Rattle.std.proofs.Common.{◌≡◌, ◌∙◌, ℕ, ◌+◌, ◌-◌, ◌≤◌, ◌<◌, zero, suc, List, [], ◌∷◌, ◌++◌, ◌⊎◌, inl, inr, ⊎_elim, Option, Some, None, IfNone, length, drop, get_or, refl, sym, ap, subst, add-one, length-drop, length-append, arith}
+use Rattle.std.proofs.Common.{◌≡◌, ◌∙◌, ℕ, ◌+◌, ◌≤◌, ◌<◌, zero, suc, List, [], ◌∷◌, ◌⊎◌, inr, ⊎_elim, Option, Some, None, IfNone, length, drop, refl, sym, ap, subst, add-one, length-drop, length-append, arith}
 use Rattle.std.specs.List.{HoldsAt}
 use Rattle.domain_flat.specs.Flat.{suffix_lists}
 use Rattle.domain_label.specs.Wire.{wire, IsAbsoluteName}

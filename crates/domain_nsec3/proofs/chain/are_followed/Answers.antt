@@ -1,4 +1,4 @@
-use Rattle.std.proofs.Common.{◌≡◌, ◌∙◌, ◌-◌, ◌<◌, length, refl, sym, arith, true≢false}
+use Rattle.std.proofs.Common.{◌∙◌, ◌-◌, ◌<◌, length, refl, sym, arith, true≢false}
 use Rattle.std.proofs.lemmas.List.Sorted.{all_adjacent_more}
 use Rattle.domain_nsec3.specs.Chains.{IsFollowedBy}
 use Rattle.domain_nsec3.proofs.Chaining.{adjacent_known, pair_spread}

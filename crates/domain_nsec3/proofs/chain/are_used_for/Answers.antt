@@ -1,4 +1,4 @@
-use Rattle.std.proofs.Common.{◌≡◌, ◌∙◌, ◌<◌, length, refl, sym, arith, true≢false}
+use Rattle.std.proofs.Common.{◌∙◌, ◌<◌, length, refl, sym, arith, true≢false}
 use Rattle.domain_nsec3.proofs.chain.are_used_for.Goals as goal
 
 pub returns-then-not-is_used_for : goal.returns-then-not-is_used_for

@@ -1,4 +1,4 @@
-use Rattle.std.proofs.Common.{◌≡◌, ◌∙◌, ◌+◌, ◌-◌, ◌/◌, ◌<◌, length, sym, arith, true≢false}
+use Rattle.std.proofs.Common.{◌∙◌, ◌+◌, ◌-◌, ◌/◌, ◌<◌, length, sym, arith, true≢false}
 use Rattle.domain_nsec3.proofs.Chaining.{low_more, high_more}
 use Rattle.domain_nsec3.proofs.chain.count_upto.Goals as goal
 

@@ -1,4 +1,4 @@
-use Rattle.std.proofs.Common.{◌≡◌, ◌∙◌, sym, true≢false}
+use Rattle.std.proofs.Common.{◌∙◌, sym, true≢false}
 use Rattle.domain_nsec3.proofs.Chaining.{covers_hash, none_covers_hash, shown_inside}
 use Rattle.domain_nsec3.proofs.chain.covering_in.Goals as goal
 

@@ -1,4 +1,4 @@
-use Rattle.std.proofs.Common.{◌≡◌, ◌∙◌, ◌<◌, length, sym, rules, true≢false}
+use Rattle.std.proofs.Common.{◌∙◌, ◌<◌, length, sym, rules, true≢false}
 use Rattle.domain_nsec3.specs.Chains.{chain_iterations, chain_salt}
 use Rattle.domain_nsec3.proofs.Chaining.{used_same}
 use Rattle.domain_nsec3.proofs.chain.is_chain.Goals as goal

@@ -1,4 +1,4 @@
-use Rattle.std.proofs.Common.{◌≡◌, ◌-◌, ◌<◌, length, arith}
+use Rattle.std.proofs.Common.{◌-◌, ◌<◌, length, arith}
 use Rattle.domain_nsec3.specs.Chains.{HasNext}
 use Rattle.domain_nsec3.proofs.Chaining.{pair_known, pair_spread}
 use Rattle.domain_nsec3.proofs.chain.is_closed.Goals as goal

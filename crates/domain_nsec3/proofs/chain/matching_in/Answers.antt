@@ -1,4 +1,4 @@
-use Rattle.std.proofs.Common.{◌≡◌, ◌∙◌, sym, true≢false}
+use Rattle.std.proofs.Common.{◌∙◌, sym, true≢false}
 use Rattle.domain_nsec3.proofs.Chaining.{matches_hash, none_matches_hash, shown_inside}
 use Rattle.domain_nsec3.proofs.chain.matching_in.Goals as goal
 

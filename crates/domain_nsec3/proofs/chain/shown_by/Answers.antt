@@ -1,4 +1,4 @@
-use Rattle.std.proofs.Common.{◌≡◌, ◌+◌, ◌-◌, length, arith}
+use Rattle.std.proofs.Common.{◌-◌, length, arith}
 use Rattle.domain_nsec3.proofs.Chaining.{shown_before, shown_by_last}
 use Rattle.domain_nsec3.proofs.chain.shown_by.Goals as goal
 

@@ -1,4 +1,3 @@
-use Rattle.std.proofs.Common.{arith}
 use Rattle.domain_name.specs.Names.{name_labels}
 use Rattle.domain_nsec3.proofs.Responding.{matches_name, none_matches_name}
 use Rattle.domain_nsec3.proofs.response.matching_within.Goals as goal
