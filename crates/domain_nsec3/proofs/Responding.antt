@@ -7,7 +7,8 @@ use Rattle.domain_name.specs.Names.{name_labels}
 use Rattle.domain_nsec3.proofs.Chaining.{compared, only_index}
 use Rattle.domain_nsec3.proofs.Enclosing.{suffix_taken, no_suffix}
 use Rattle.domain_nsec3.specs.Chains.{IsChain, MatchesHashAt, CoversHashAt, chain_hash}
-use Rattle.domain_nsec3.specs.Responses.{MatchesName, CoversName, IsProvable, IsEncloserOf, IsSplit, IsSplitOf, IsOptOut, once, wildcard_at}
+use Rattle.domain_nsec3.specs.Responses.{MatchesName, CoversName, IsProvable, IsEncloserOf, IsSplit, IsSplitOf, IsOptOut, once}
+use Rattle.domain_nsec3.specs.Hashing.{wildcard_at}
 use Rattle.domain_nsec3.specs.Responses.{AreOfEncloser, AreOfName, AreOfNameError, AreOfOptOut, AreOfUnsigned, AreOfWildcardAnswer, AreOfWildcardNoData}
 use Rattle.domain_nsec3.specs.declared.encloser.EncloserProof.{EncloserProof}
 use Rattle.domain_nsec3.specs.declared.encloser.HashedRecord.{HashedRecord}

@@ -6,3 +6,4 @@ pub mod Enclosers
 pub mod Chains
 pub mod ChainViews
 pub mod Responses
+pub mod NameErrors

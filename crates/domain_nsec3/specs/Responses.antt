@@ -1,8 +1,9 @@
 -- Which NSEC3 records a response has, by outcome (RFC 5155, 7.2): indices of records in the zone's chain, each once.
 use Rattle.std.specs.Prelude.{◌≡◌, ◌⊎◌, ℕ, ◌+◌, ◌≤◌, ◌<◌, ◌%◌, ◌==◌, not, List, [], ◌∷◌, ◌++◌, length, drop, filter, Option, Some, None}
 use Rattle.std.specs.List.{HoldsAt}
-use Rattle.domain_name.specs.Names.{name_labels, Wildcard}
+use Rattle.domain_name.specs.Names.{name_labels}
 use Rattle.domain_nsec3.specs.Chains.{chain_hash, MatchesHashAt, CoversHashAt}
+use Rattle.domain_nsec3.specs.Hashing.{wildcard_at}
 use Rattle.domain_nsec3.specs.declared.encloser.EncloserProof.{EncloserProof}
 use Rattle.domain_nsec3.specs.declared.encloser.HashedRecord.{HashedRecord}
 use Rattle.domain_nsec3.specs.declared.response.ProofIndices.{ProofIndices}
@@ -16,10 +17,6 @@ MatchesName rs labels i = MatchesHashAt rs (chain_hash rs labels) i
 -- A record covers the name: the name doesn't exist, or with Opt-Out it is an unsigned delegation.
 abbrev pub CoversName : List HashedRecord → List (List ℕ) → ℕ → Type 0
 CoversName rs labels i = CoversHashAt rs (chain_hash rs labels) i
-
--- The wildcard at a name: an asterisk label before it (RFC 4592, 2.1.1).
-abbrev pub wildcard_at : List (List ℕ) → List (List ℕ)
-wildcard_at labels = Wildcard ++ labels
 
 -- The record has Opt-Out (RFC 5155, 3.1.2.1).
 abbrev pub IsOptOut : HashedRecord → Type 0

@@ -67,7 +67,7 @@ fn are_used_for(records: &[HashedRecord<'_>], iterations: u16, salt: &[u8]) -> b
 }
 
 /// The number of iterations of the first record.
-fn iterations_of(records: &[HashedRecord<'_>]) -> u16
+pub(crate) fn iterations_of(records: &[HashedRecord<'_>]) -> u16
     requires { 0 < length records.now }
     ensures { result ≡ chain_iterations records.now }
 {
@@ -75,7 +75,7 @@ fn iterations_of(records: &[HashedRecord<'_>]) -> u16
 }
 
 /// The salt of the first record.
-fn salt_of<'m>(records: &[HashedRecord<'m>]) -> &'m [u8]
+pub(crate) fn salt_of<'m>(records: &[HashedRecord<'m>]) -> &'m [u8]
     requires { 0 < length records.now }
     ensures { result.now ≡ chain_salt records.now }
 {
@@ -107,7 +107,8 @@ fn count_upto(records: &[HashedRecord<'_>], hash: &[u8]) -> usize
     requires { IsChain records.now }
     ensures within { result ≤ length records.now }
     ensures low { AllWithin (λ r. HashPrecedes hash.now r.owner → ⊥) records.now 0 result }
-    ensures high { AllWithin (λ r. HashPrecedes hash.now r.owner) records.now result (length records.now) }
+    ensures high { AllWithin (λ r. HashPrecedes hash.now r.owner)
+        records.now result (length records.now) }
 {
     let mut low = 0;
     let mut high = records.len();

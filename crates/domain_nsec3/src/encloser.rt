@@ -73,7 +73,7 @@ fn matching_index(
 }
 
 /// The index of the first record that covers a hash.
-fn covering_index(
+pub(crate) fn covering_index(
     records: &[HashedRecord<'_>],
     iterations: u16,
     salt: &[u8],
@@ -92,7 +92,7 @@ fn covering_index(
 }
 
 /// The closest encloser of a name that records prove.
-fn find_encloser<'n>(
+pub(crate) fn find_encloser<'n>(
     name: Name<&'n [u8]>,
     iterations: u16,
     salt: &[u8],

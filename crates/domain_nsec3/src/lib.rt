@@ -4,15 +4,18 @@
 
 pub mod chain;
 pub mod covering;
+pub mod denial;
 pub mod encloser;
 pub mod hashing;
 pub mod label;
 pub mod laws;
 pub mod record;
 pub mod response;
+mod wildcard;
 
 pub use chain::{Nsec3Chain, is_chain};
 pub use covering::{covers, matches};
+pub use denial::{NameErrorProof, name_error};
 pub use encloser::{EncloserProof, HashedRecord, closest_encloser};
 pub use hashing::{HASH_LEN, TooManyIterations, hash_name};
 pub use label::{LABEL_LEN, hash_of_label, label_of_hash};

@@ -4,17 +4,18 @@ ghost use Rattle.std.specs.List.{HoldsAt};
 ghost use Rattle.domain_label.specs.Wire.{wire};
 ghost use Rattle.domain_name.specs.Names.{name_labels};
 ghost use Rattle.domain_nsec3.specs.Chains.{IsChain, chain_hash, chain_iterations};
+ghost use Rattle.domain_nsec3.specs.Hashing.{wildcard_at};
 ghost use Rattle.domain_nsec3.specs.ChainViews.{chain_records};
 ghost use Rattle.domain_nsec3.specs.Responses.{IsEncloserOf, IsOptOut, IsProvable, IsSplit, IsSplitOf, MatchesName};
 ghost use Rattle.domain_nsec3.specs.Responses.{AreOfEncloser, AreOfName, AreOfNameError, AreOfOptOut};
 ghost use Rattle.domain_nsec3.specs.Responses.{AreOfUnsigned, AreOfWildcardAnswer};
-ghost use Rattle.domain_nsec3.specs.Responses.{AreOfWildcardNoData, once, proof_indices, wildcard_at};
+ghost use Rattle.domain_nsec3.specs.Responses.{AreOfWildcardNoData, once, proof_indices};
 
-use crate::chain::{Nsec3Chain, covering_in, hash_in, matching_in};
+use crate::chain::{Nsec3Chain, covering_in, hash_in, iterations_of, matching_in, salt_of};
 use crate::encloser::{EncloserProof, HashedRecord};
 use crate::hashing::{HASH_LEN, TooManyIterations};
-use domain_list::Chain;
-use domain_name::{Name, RelativeName, SuffixIter};
+use crate::wildcard::wildcard_hash;
+use domain_name::{Name, SuffixIter};
 use octseq::Octets;
 
 /// The indices of the NSEC3 records that a response has, among those of the zone: one to three, each once.
@@ -24,7 +25,7 @@ pub struct ProofIndices {
     pub first: usize,
     /// The index of the second record, if there is one.
     pub second: Option<usize>,
-    /// The index of the third record, if there is one. `second` can be `None` beside it.
+    /// The index of the third record, if there is one.
     pub third: Option<usize>,
 }
 
@@ -131,15 +132,12 @@ fn encloser_in<'n>(
 }
 
 /// The hash of the wildcard at a name: an asterisk label before it.
-fn wildcard_hash(records: &[HashedRecord<'_>], closest: Name<&[u8]>) -> [u8; HASH_LEN]
+fn wildcard_in(records: &[HashedRecord<'_>], closest: Name<&[u8]>) -> [u8; HASH_LEN]
     requires chain { IsChain records.now }
     requires fits { length (wire (wildcard_at (name_labels closest))) ≤ 255 }
     ensures { result ≡ chain_hash records.now (wildcard_at (name_labels closest.entry)) }
 {
-    let Ok(wildcard) = Chain::new(RelativeName::wildcard_ref(), closest) else {
-        unreachable!();
-    };
-    hash_in(records, &wildcard)
+    wildcard_hash(closest, iterations_of(records), salt_of(records))
 }
 
 /// The records of a closest encloser proof.
@@ -175,7 +173,7 @@ fn name_error_in(
     let Some(proof) = encloser_in(records, name, labels) else {
         return None;
     };
-    let hash = wildcard_hash(records, proof.closest);
+    let hash = wildcard_in(records, proof.closest);
     let Some(wildcard) = covering_in(records, &hash) else {
         return None;
     };
@@ -286,7 +284,7 @@ fn wildcard_no_data_in(
     let Some(covering) = covering_in(records, &closer_hash) else {
         return None;
     };
-    let source_hash = wildcard_hash(records, split.closest);
+    let source_hash = wildcard_in(records, split.closest);
     let Some(wildcard) = matching_in(records, &source_hash) else {
         return None;
     };

@@ -1,7 +1,7 @@
 //! The zone of RFC 5155, appendix A, and responses of appendix B.
 use crate::{
     HashedRecord, Nsec3, Nsec3Chain, Nsec3Param, ProofIndices, TooManyIterations, closest_encloser,
-    covers, hash_name, hash_of_label, is_chain, label_of_hash, matches,
+    covers, hash_name, hash_of_label, is_chain, label_of_hash, matches, name_error,
 };
 use domain_name::Name;
 
@@ -520,4 +520,31 @@ fn chains(rt: HostRuntime) {
     let mut other = two;
     other[1].data.flags = 0;
     assert!(rt; is_chain(&other));
+}
+
+/// What records prove of a name error: those of B.1, and not without each of them.
+#[test]
+fn name_errors(rt: HostRuntime) {
+    let hashes = zone_hashes();
+    let first = hashed(hashes[0], &hashes[1]);
+    let a = hashed(hashes[3], &hashes[4]);
+    let x_w = hashed(hashes[4], &hashes[5]);
+    let Ok(name) = Name::from_slice(b"\x01a\x01c\x01x\x01w\x07example\x00") else {
+        return assert!(rt; false);
+    };
+    let Ok(Some(proof)) = name_error(&name, 12, &SALT, 12, &[first, x_w, a]) else {
+        return assert!(rt; false);
+    };
+    assert_eq!(rt; proof.encloser.matching, 1);
+    assert_eq!(rt; proof.encloser.covering, 0);
+    assert_eq!(rt; proof.wildcard, 2);
+    assert!(rt; matches!(name_error(&name, 12, &SALT, 12, &[first, x_w]), Ok(None)));
+    assert!(rt; matches!(name_error(&name, 12, &SALT, 12, &[first, a]), Ok(None)));
+    assert!(rt; matches!(name_error(&name, 12, &SALT, 12, &[x_w, a]), Ok(None)));
+    assert!(rt;
+        matches!(
+            name_error(&name, 12, &SALT, 11, &[first, x_w, a]),
+            Err(TooManyIterations)
+        )
+    );
 }

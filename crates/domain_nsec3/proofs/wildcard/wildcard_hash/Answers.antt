@@ -3,9 +3,8 @@ use Rattle.domain_label.specs.Wire.{IsAbsolute}
 use Rattle.domain_list.specs.Chains.{before_root}
 use Rattle.domain_list.specs.NameLaws.{before_absolute}
 use Rattle.domain_name.specs.Names.{name_labels, relative_labels, Wildcard}
-use Rattle.domain_nsec3.specs.Chains.{chain_hash}
-use Rattle.domain_nsec3.specs.Responses.{wildcard_at}
-use Rattle.domain_nsec3.proofs.response.wildcard_hash.Goals as goal
+use Rattle.domain_nsec3.specs.Hashing.{nsec3_hash, wildcard_at}
+use Rattle.domain_nsec3.proofs.wildcard.wildcard_hash.Goals as goal
 
 joined : (a b c d : List (List ℕ)) → a ≡ b → c ≡ d → a ++ c ≡ b ++ d
 joined a b c d e f = ap (λ x. x ++ c) e ∙ ap (λ x. b ++ x) f
@@ -16,11 +15,11 @@ unreachable-requires c =
     let at : relative_labels c.wildcard_ref.result ++ e ≡ wildcard_at e = ap (λ x. x ++ e) c.wildcard_ref.ensures in
     let long : 254 < before_root (wildcard_at e) = subst (λ x. 254 < before_root x) at (c.in_default.ensures.long.0 refl) in
     let absolute : IsAbsolute (wildcard_at e) = (omega arith, c.args.closest.absolute.1.0) in
-    omega (arith, long, c.requires.fits, before_absolute (wildcard_at e) absolute)
+    omega (arith, long, c.requires, before_absolute (wildcard_at e) absolute)
 
 pub returns : goal.returns
 returns c =
     let e = name_labels c.args.closest in
     let made = c.in-Ok.wildcard in
-    c.hash_in.ensures
-    ∙ ap (chain_hash c.args.records.now) (joined (relative_labels made.left) Wildcard (name_labels made.right) e (ap relative_labels c.in-Ok.ensures.parts.0 ∙ c.wildcard_ref.ensures) (ap name_labels c.in-Ok.ensures.parts.1))
+    c.name_hash.ensures
+    ∙ ap (nsec3_hash c.args.salt.now c.args.iterations) (joined (relative_labels made.left) Wildcard (name_labels made.right) e (ap relative_labels c.in-Ok.ensures.parts.0 ∙ c.wildcard_ref.ensures) (ap name_labels c.in-Ok.ensures.parts.1))
