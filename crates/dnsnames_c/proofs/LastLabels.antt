@@ -1,10 +1,10 @@
 -- Two names in octets gone over together from the front: the last labels that differ decide their order.
-use Rattle.std.proofs.Common.{◌≡◌, ℕ, ◌+◌, ◌-◌, ◌≤◌, ◌<◌, List, ◌++◌, length, Option, None, Some, refl, sym, ◌∙◌, ap, subst, subst₂, arith, append_assoc, length-append, le_refl}
+use Rattle.std.proofs.Common.{◌≡◌, ℕ, ◌+◌, ◌≤◌, ◌<◌, List, ◌++◌, length, Option, None, Some, refl, sym, ◌∙◌, ap, subst, subst₂, arith, append_assoc, length-append, le_refl}
 use Rattle.domain_label.specs.Labels.{label_octets}
 use Rattle.domain_label.specs.Lowercase.{lowercase}
 use Rattle.domain_label.specs.Wire.{wire, labels_in, AreLabels, IsWire, IsAbsoluteWire}
 use Rattle.domain_label.specs.declared.label.Label.{Label}
-use Rattle.domain_label.proofs.WireLaws.{wire_append, absolute_wire, absolute_labels}
+use Rattle.domain_label.proofs.WireLaws.{wire_append, absolute_wire}
 use Rattle.domain_list.specs.Order.{canonical_order, last_order}
 use Rattle.domain_list.proofs.EqualSuffixLabels.{ends_alike, none_alike}
 use Rattle.domain_list.proofs.LastDifference.{Met, met_start, met_left, met_right, met_same, met_apart, met_end}

@@ -1,26 +1,25 @@
 //! Names as text.
-ghost use Rattle.std.specs.Prelude.{◌≡◌, ◌↔◌, ◌∷◌, ◌==◌, ◌≤◌, ℕ, List, length, take, IsTrue, IfOk, IfErr};
+ghost use Rattle.std.specs.Prelude.{◌≡◌, ◌↔◌, ◌∷◌, ◌==◌, ◌≤◌, ℕ, List, [], length, take, IsTrue, OnOk, IfErr};
 ghost use Rattle.std.specs.List.{AllByRecursion, flat_map, count_by};
 ghost use Rattle.std.specs.Str.{chars};
 ghost use Rattle.domain_label.specs.Text.{with_dot, or_dot, text_with_final_dot};
-ghost use Rattle.domain_label.specs.Wire.{IsAbsoluteWire, labels_in};
+ghost use Rattle.domain_label.specs.Wire.{IsAbsoluteWire, labels_in, wire};
 ghost use Rattle.domain_list.specs.Dotted.{dotted, IsShown};
 ghost use Rattle.domain_builder.specs.TextErrors.{label_fault, presentation_fault};
 ghost use Rattle.domain_builder.specs.TextGrammar.{IsTextOfName};
-ghost use Rattle.domain_name.specs.Names.{name_labels};
 ghost use Rattle.dnsnames_c.specs.Answers.{HasFaultNumber, ReadsText, Gives, GivesNameText, DropsFinalDot, name_text};
 ghost use Rattle.dnsnames_c.specs.Status.{text_number};
 
 use crate::name::is_name;
 use crate::put::give;
 use arrayvec::ArrayVec;
+use domain_builder::text::absolute_into_array;
 use domain_builder::{FromStrError, PresentationErrorKind};
 use domain_flat::NameIter;
 use domain_flat::iter::first_label;
 use domain_label::LabelFromStrErrorKind;
 use domain_label::scan::SymbolCharsError;
 use domain_list::dotted::push_dotted;
-use domain_name::Name;
 use std::str::from_utf8;
 
 /// The number of a fault of a label.
@@ -47,13 +46,16 @@ fn number_of(kind: PresentationErrorKind) -> u32
     }
 }
 
-/// The name that a text spells, or the number of its fault.
-fn name_of(text: &str) -> Result<Name<ArrayVec<u8, 255>>, u32>
-    ensures name { IfOk result (λ name. IsTextOfName (chars text.now) (name_labels name)) }
+/// Puts the name that a text spells into an empty array, or returns the number of the text's fault.
+#[inline(always)]
+fn read_text(octets: &mut ArrayVec<u8, 255>, text: &str) -> Result<(), u32>
+    requires empty { octets.old.items ≡ [] }
+    ensures name { OnOk result (IsTextOfName (chars text.now) (labels_in octets.new.items)) }
+    ensures wire { OnOk result (octets.new.items ≡ wire (labels_in octets.new.items)) }
     ensures fault { IfErr result (λ number. HasFaultNumber (chars text.now) number) }
 {
-    match text.parse::<Name<ArrayVec<u8, 255>>>() {
-        Ok(name) => Ok(name),
+    match absolute_into_array(octets, text) {
+        Ok(()) => Ok(()),
         Err(FromStrError::Presentation(e)) => Err(number_of(e.kind())),
         Err(FromStrError::ShortBuf) => unreachable!(),
     }
@@ -73,8 +75,9 @@ pub extern "C" fn dnsnames_from_text(text: &[u8], buffer: &mut [u8], length: &mu
     let Ok(text) = from_utf8(text) else {
         return 12;
     };
-    match name_of(text) {
-        Ok(name) => give(name.as_slice(), buffer, length),
+    let mut octets = ArrayVec::new();
+    match read_text(&mut octets, text) {
+        Ok(()) => give(octets.as_slice(), buffer, length),
         Err(number) => number,
     }
 }

@@ -1,4 +1,4 @@
-use Rattle.std.proofs.Common.{slice_index_or, ◌≡◌, ◌≤◌, ◌+◌, sym, subst, arith, true≢false}
+use Rattle.std.proofs.Common.{◌+◌, sym, subst, arith, true≢false}
 use Rattle.dnsnames_c.proofs.NameOctets.{Walked, walked_more, name_there, ends_there, ends_early}
 use Rattle.dnsnames_c.proofs.name.is_name.Goals as goal
 
