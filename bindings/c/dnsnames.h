@@ -104,7 +104,7 @@ typedef enum dnsnames_status {
     DNSNAMES_NO_SECTION = 26,
     /* All fields, strings or options of the data were given: no fault, but the end. */
     DNSNAMES_NO_MORE = 27,
-    /* Text of a message: an entry hasn't the form of one. */
+    /* Text of a message: an entry hasn't the form of one. EDNS: an option hasn't the form of its standard. */
     DNSNAMES_BAD_FORM = 28,
     /* Text of a message: it wasn't made. This doesn't come, but no proof tells so. */
     DNSNAMES_NO_TEXT = 29,
@@ -431,12 +431,13 @@ typedef struct dnsnames_field {
  *     HINFO                              CHAR_STRING CHAR_STRING
  *     GPOS                               CHAR_STRING CHAR_STRING CHAR_STRING
  *     ISDN                               CHAR_STRING OPTIONAL_STRING
- *     TXT SPF AVC                        CHAR_STRINGS
+ *     TXT NINFO SPF AVC RESINFO          CHAR_STRINGS
+ *     WALLET CLA                         CHAR_STRINGS
  *     CAA                                NUMBER8 TAG QUOTED_TEXT
  *     URI                                NUMBER16 NUMBER16 QUOTED_TEXT
  *     SVCB * HTTPS *                     NUMBER16 NAME SVC_PARAMS
  *     SIG RRSIG                          TYPE NUMBER8 NUMBER8 TTL TIME TIME NUMBER16 NAME BASE64
- *     KEY DNSKEY CDNSKEY                 NUMBER16 NUMBER8 NUMBER8 BASE64
+ *     KEY DNSKEY RKEY CDNSKEY            NUMBER16 NUMBER8 NUMBER8 BASE64
  *     DS CDS DLV                         NUMBER16 NUMBER8 NUMBER8 BASE16
  *     NSEC                               NAME TYPE_BITMAPS
  *     NSEC3                              NUMBER8 NUMBER8 NUMBER16 COUNTED_BASE16 COUNTED_BASE32 OPTIONAL_TYPE_BITMAPS
@@ -446,7 +447,7 @@ typedef struct dnsnames_field {
  *     CERT                               NUMBER16 NUMBER16 NUMBER8 BASE64
  *     SSHFP                              NUMBER8 NUMBER8 BASE16
  *     TLSA SMIMEA                        NUMBER8 NUMBER8 NUMBER8 BASE16
- *     DHCID * OPENPGPKEY                 BASE64
+ *     DHCID * OPENPGPKEY HHIT BRID       BASE64
  *     NID L64                            NUMBER16 NUMBER64
  *     L32                                NUMBER16 IPV4
  *     EUI48                              NUMBER48
@@ -524,9 +525,9 @@ dnsnames_status dnsnames_data_number(const uint8_t *message, size_t message_len,
 dnsnames_status dnsnames_data_address(const uint8_t *message, size_t message_len, size_t data, size_t data_len,
                                       uint16_t type, uint8_t *buffer, size_t capacity, size_t *length);
 
-/* The character strings of the data of TXT (RFC 1035, 3.3.14), SPF (RFC 4408, 3.1.1) and AVC, one after another: *passed
- * is how many octets of the data were passed, 0 for the first string and then as the call leaves it. *string becomes the
- * offset of the string's octets in the message, *string_len how many there are.
+/* The character strings of data whose only field is CHAR_STRINGS, as of TXT (RFC 1035, 3.3.14) and SPF (RFC 4408, 3.1.1),
+ * one after another: *passed is how many octets of the data were passed, 0 for the first string and then as the call leaves
+ * it. *string becomes the offset of the string's octets in the message, *string_len how many there are.
  *
  * NO_MORE where all strings were passed. NO_FIELD where the type is another; SHORT_INPUT where the data end past the
  * message, where they end in the string, or where they have no octet, since there is one string at least.
@@ -541,13 +542,18 @@ dnsnames_status dnsnames_data_address(const uint8_t *message, size_t message_len
 dnsnames_status dnsnames_data_string(const uint8_t *message, size_t message_len, size_t data, size_t data_len,
                                      uint16_t type, size_t *passed, size_t *string, size_t *string_len);
 
-/* What an OPT record says by its class and its TTL (RFC 6891, 6.1.2 and 6.1.3): how many octets its sender takes in a
- * message over UDP (512 where it tells fewer), the response code of twelve bits, the version of EDNS, and the bit DO, 0 or
- * 1. */
+/* The flags of EDNS (RFC 6891, 6.1.4): the sender takes records of DNSSEC (DO: RFC 3225, 3), and compact denials of
+ * existence (CO: RFC 9824, 5.1). */
+enum { DNSNAMES_EDNS_FLAG_DO = 0x8000, DNSNAMES_EDNS_FLAG_CO = 0x4000 };
+
+/* What an OPT record says by its class and its TTL (RFC 6891, 6.1.2 to 6.1.4): how many octets its sender takes in a
+ * message over UDP (512 where it tells fewer), the response code of twelve bits, the version of EDNS, the sixteen
+ * flags of EDNS, and DO of these once more, 0 or 1. */
 typedef struct dnsnames_opt_fields {
     uint16_t size;
     uint16_t rcode;
     uint8_t version;
+    uint16_t flags;
     uint32_t dnssec_ok;
 } dnsnames_opt_fields;
 
@@ -565,6 +571,88 @@ dnsnames_status dnsnames_opt(uint16_t type, uint16_t class_, uint32_t ttl, uint1
 dnsnames_status dnsnames_data_option(const uint8_t *message, size_t message_len, size_t data, size_t data_len,
                                      uint16_t type, size_t *passed, uint16_t *code, size_t *option,
                                      size_t *option_len);
+
+/* ---- EDNS options by name ---- */
+
+/* How many octets the cookie of a client has, and the most that one of a server has. */
+#define DNSNAMES_CLIENT_COOKIE_LEN 8
+#define DNSNAMES_MAX_SERVER_COOKIE 32
+
+/* The codes of some options, by the numbers that IANA registered them under. */
+enum {
+    DNSNAMES_OPTION_NSID = 3,            /* RFC 5001: the identifier of a name server, any octets; none in a query */
+    DNSNAMES_OPTION_CLIENT_SUBNET = 8,   /* RFC 7871 */
+    DNSNAMES_OPTION_COOKIE = 10,         /* RFC 7873 */
+    DNSNAMES_OPTION_TCP_KEEPALIVE = 11,  /* RFC 7828: 16 bits, in units of 100 milliseconds; no octets in a query */
+    DNSNAMES_OPTION_PADDING = 12,        /* RFC 7830: zeros */
+    DNSNAMES_OPTION_EXTENDED_ERROR = 15  /* RFC 8914 */
+};
+
+/* These four write an option after the first *options_len octets of a buffer, and add its size to *options_len:
+ * dnsnames_builder_opt takes these octets. *options_len is 0 before the first option.
+ *
+ * BAD_LENGTH where *options_len is larger than the capacity. NO_ROOM where the option doesn't fit, or where there
+ * would be more than 65,535 octets of options. Buffer and *options_len are then as they were, as after each refusal.
+ *
+ * This one writes any option (RFC 6891, 6.1.2): its code, its length, and its data.
+ *
+ *     uint8_t options[64];
+ *     size_t options_len = 0;
+ *     status = dnsnames_append_cookie(options, sizeof options, &options_len, client, NULL, 0);
+ *     if (status == DNSNAMES_OK)
+ *         status = dnsnames_append_option(options, sizeof options, &options_len, DNSNAMES_OPTION_NSID, NULL, 0);
+ *     if (status == DNSNAMES_OK)
+ *         status = dnsnames_builder_opt(&builder, 1232, 0, 0, 0, options, options_len);
+ */
+dnsnames_status dnsnames_append_option(uint8_t *options, size_t capacity, size_t *options_len, uint16_t code,
+                                       const uint8_t *data, size_t data_len);
+
+/* Writes the cookie of a client, which the program draws at random, and after it that of a server, if server_len
+ * isn't 0 (RFC 7873, 4). The client's has DNSNAMES_CLIENT_COOKIE_LEN octets. BAD_FORM where the server's has 1 to 7
+ * octets, or more than 32. */
+dnsnames_status dnsnames_append_cookie(uint8_t *options, size_t capacity, size_t *options_len, const uint8_t *client,
+                                       const uint8_t *server, size_t server_len);
+
+/* Writes the subnet of a client (RFC 7871, 6): the family of its address (1 IPv4, 2 IPv6, 0 where no bit of it is
+ * encoded), how many bits of it are encoded, for how many an answer is meant (0 in a query), and these bits, in as
+ * few octets as have them. The address may have more octets: the bits after the encoded ones are written as zeros, or
+ * not at all. BAD_FORM where the family is another, or its addresses have fewer bits; SHORT_INPUT where the address
+ * has. */
+dnsnames_status dnsnames_append_client_subnet(uint8_t *options, size_t capacity, size_t *options_len, uint16_t family,
+                                              uint8_t source_prefix_len, uint8_t scope_prefix_len,
+                                              const uint8_t *address, size_t address_len);
+
+/* Writes an extended error: its code, and its text, which may be empty (RFC 8914, 2). BAD_SYMBOL where this isn't
+ * UTF-8. */
+dnsnames_status dnsnames_append_extended_error(uint8_t *options, size_t capacity, size_t *options_len,
+                                               uint16_t info_code, const uint8_t *text, size_t text_len);
+
+/* These three read the octets of an option, as dnsnames_data_option gives them: message + option, of option_len. A
+ * server answers by FORMERR a query whose cookies or subnet are refused (RFC 7873, 5.2.2; RFC 7871, 6).
+ *
+ * Of cookies the first 8 octets are the client's, and *server_len becomes how many after them are the server's: 0, or
+ * 8 to 32 (RFC 7873, 4). SHORT_INPUT where there are fewer than 8 octets, BAD_FORM where there are 9 to 15 or more
+ * than 40. */
+dnsnames_status dnsnames_cookie(const uint8_t *option, size_t option_len, size_t *server_len);
+
+/* What the subnet of a client says (RFC 7871, 6): the family of its address, how many bits of it are encoded, and for
+ * how many an answer is meant. */
+typedef struct dnsnames_subnet_fields {
+    uint16_t family;
+    uint8_t source_prefix_len;
+    uint8_t scope_prefix_len;
+} dnsnames_subnet_fields;
+
+/* Of the subnet of a client the octets after the first 4 are the address: as few as have the encoded bits, and the
+ * others are zero. SHORT_INPUT where there are fewer than 4 octets; BAD_FORM where the family isn't 0, 1 or 2, or
+ * more bits are encoded than its addresses have; SHORT_INPUT where the address has fewer octets than the encoded bits
+ * take; BAD_FORM where it has more, or a bit after them isn't zero: the first of these. */
+dnsnames_status dnsnames_client_subnet(const uint8_t *option, size_t option_len, dnsnames_subnet_fields *subnet);
+
+/* Of an extended error *info_code becomes its code, and the octets after the first 2 are its text, which is UTF-8 by
+ * its sender's word alone, and may end in a zero octet (RFC 8914, 2). SHORT_INPUT where there are fewer than 2
+ * octets. */
+dnsnames_status dnsnames_extended_error(const uint8_t *option, size_t option_len, uint16_t *info_code);
 
 /* ---- Messages as text ---- */
 
@@ -735,16 +823,22 @@ dnsnames_status dnsnames_builder_rewind(dnsnames_builder *builder, const dnsname
 /* Pushes an OPT record into the additional section (RFC 6891, 6.1): how many octets of a message over UDP its sender
  * takes, the upper eight bits of a response code of twelve (code >> 4), the version of EDNS, which is 0, the bit DO
  * where dnssec_ok isn't 0 (RFC 3225, 3), and options in wire format: each a code and a length of 16 bits and its
- * octets. They aren't checked: a reader refuses octets that end inside an option. A message has at most one OPT
- * record, which isn't checked either. NO_BUILDER, TOO_MANY_ENTRIES, NO_ROOM.
+ * octets, as dnsnames_append_option writes them. They aren't checked: a reader refuses octets that end inside an
+ * option. A message has at most one OPT record, which isn't checked either. NO_BUILDER, TOO_MANY_ENTRIES, NO_ROOM.
  *
- *     // A client cookie (RFC 7873, 4): code 10, and 8 octets, which the program draws at random.
- *     uint8_t options[12] = {0, 10, 0, 8};
- *     memcpy(options + 4, cookie, 8);
- *     status = dnsnames_builder_opt(&builder, 1232, 0, 0, 0, options, sizeof options);
+ *     // The cookie of a client (RFC 7873, 4), of 8 octets, which the program draws at random.
+ *     uint8_t options[12];
+ *     size_t options_len = 0;
+ *     status = dnsnames_append_cookie(options, sizeof options, &options_len, cookie, NULL, 0);
+ *     if (status == DNSNAMES_OK)
+ *         status = dnsnames_builder_opt(&builder, 1232, 0, 0, 0, options, options_len);
  */
 dnsnames_status dnsnames_builder_opt(dnsnames_builder *builder, uint16_t size, uint8_t rcode_ext, uint8_t version,
                                      uint32_t dnssec_ok, const uint8_t *options, size_t options_len);
+
+/* The same, with these flags of EDNS (DNSNAMES_EDNS_FLAG_..) in place of DO alone. */
+dnsnames_status dnsnames_builder_opt_flags(dnsnames_builder *builder, uint16_t size, uint8_t rcode_ext, uint8_t version,
+                                           uint16_t flags, const uint8_t *options, size_t options_len);
 
 /* Takes all records away again, and sets the flag TC: what is left of an answer that has no room (RFC 2181, 9). An OPT
  * record may be pushed after it. NO_BUILDER. */
@@ -870,7 +964,7 @@ static inline const char *dnsnames_strerror(uint32_t status)
     case DNSNAMES_TOO_MANY_ENTRIES: return "too many entries in a section";
     case DNSNAMES_NO_SECTION: return "no such section";
     case DNSNAMES_NO_MORE: return "no more fields, strings or options";
-    case DNSNAMES_BAD_FORM: return "an entry hasn't the form of one";
+    case DNSNAMES_BAD_FORM: return "an entry or an option hasn't the form of one";
     case DNSNAMES_NO_TEXT: return "the text wasn't made";
     case DNSNAMES_NO_END: return "aliases lead to no name";
     case DNSNAMES_NO_MARK: return "no mark of this message";

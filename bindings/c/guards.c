@@ -60,10 +60,23 @@ uint32_t proved_dnsnames_data_address(const uint8_t *message, size_t message_len
 uint32_t proved_dnsnames_data_string(const uint8_t *message, size_t message_len, size_t data, size_t data_len,
                                      uint16_t type, size_t *passed, size_t *string, size_t *string_len);
 uint32_t proved_dnsnames_opt(uint16_t type, uint16_t class_, uint32_t ttl, uint16_t flags, uint16_t *size,
-                             uint16_t *rcode, uint8_t *version, uint32_t *dnssec_ok);
+                             uint16_t *rcode, uint8_t *version, uint16_t *bits, uint32_t *dnssec_ok);
 uint32_t proved_dnsnames_data_option(const uint8_t *message, size_t message_len, size_t data, size_t data_len,
                                      uint16_t type, size_t *passed, uint16_t *code, size_t *option,
                                      size_t *option_len);
+uint32_t proved_dnsnames_append_option(uint8_t *options, size_t capacity, size_t *options_len, uint16_t code,
+                                       const uint8_t *data, size_t data_len);
+uint32_t proved_dnsnames_append_cookie(uint8_t *options, size_t capacity, size_t *options_len, const uint8_t *client,
+                                       const uint8_t *server, size_t server_len);
+uint32_t proved_dnsnames_append_client_subnet(uint8_t *options, size_t capacity, size_t *options_len, uint16_t family,
+                                              uint8_t source_prefix_len, uint8_t scope_prefix_len,
+                                              const uint8_t *address, size_t address_len);
+uint32_t proved_dnsnames_append_extended_error(uint8_t *options, size_t capacity, size_t *options_len,
+                                               uint16_t info_code, const uint8_t *text, size_t text_len);
+uint32_t proved_dnsnames_cookie(const uint8_t *option, size_t option_len, size_t *server_len);
+uint32_t proved_dnsnames_client_subnet(const uint8_t *option, size_t option_len, uint16_t *family,
+                                       uint8_t *source_prefix_len, uint8_t *scope_prefix_len);
+uint32_t proved_dnsnames_extended_error(const uint8_t *option, size_t option_len, uint16_t *info_code);
 uint32_t proved_dnsnames_message_text(const uint8_t *message, size_t message_len, uint8_t *buffer, size_t capacity,
                                       size_t *length);
 uint32_t proved_dnsnames_record_text(const uint8_t *message, size_t message_len, size_t offset, uint8_t *buffer,
@@ -100,6 +113,9 @@ uint32_t proved_dnsnames_builder_rewind(const uint8_t *octets, size_t capacity, 
 uint32_t proved_dnsnames_builder_opt(uint8_t *octets, size_t capacity, dnsnames_builder_state *state, uint16_t size,
                                      uint8_t rcode_ext, uint8_t version, uint32_t dnssec_ok, const uint8_t *options,
                                      size_t options_len);
+uint32_t proved_dnsnames_builder_opt_flags(uint8_t *octets, size_t capacity, dnsnames_builder_state *state,
+                                           uint16_t size, uint8_t rcode_ext, uint8_t version, uint16_t flags,
+                                           const uint8_t *options, size_t options_len);
 uint32_t proved_dnsnames_builder_truncate(const uint8_t *octets, size_t capacity, dnsnames_builder_state *state);
 uint32_t proved_dnsnames_builder_finish(uint8_t *octets, size_t capacity, const dnsnames_builder_state *state,
                                         size_t *length);
@@ -351,7 +367,7 @@ dnsnames_status dnsnames_data_string(const uint8_t *message, size_t message_len,
 dnsnames_status dnsnames_opt(uint16_t type, uint16_t class_, uint32_t ttl, uint16_t flags, dnsnames_opt_fields *opt)
 {
     return GUARDED(opt == NULL, proved_dnsnames_opt(type, class_, ttl, flags, &opt->size, &opt->rcode, &opt->version,
-                                                    &opt->dnssec_ok));
+                                                    &opt->flags, &opt->dnssec_ok));
 }
 
 dnsnames_status dnsnames_data_option(const uint8_t *message, size_t message_len, size_t data, size_t data_len,
@@ -362,6 +378,65 @@ dnsnames_status dnsnames_data_option(const uint8_t *message, size_t message_len,
                    option_len == NULL,
                    proved_dnsnames_data_option(octets_at(message), message_len, data, data_len, type, passed, code,
                                                option, option_len));
+}
+
+/* Whether a buffer of options or its length is null. */
+static int no_options(const uint8_t *options, size_t capacity, const size_t *options_len)
+{
+    return is_null(options, capacity) || options_len == NULL;
+}
+
+dnsnames_status dnsnames_append_option(uint8_t *options, size_t capacity, size_t *options_len, uint16_t code,
+                                       const uint8_t *data, size_t data_len)
+{
+    return GUARDED(no_options(options, capacity, options_len) || is_null(data, data_len),
+                   proved_dnsnames_append_option(room_at(options), capacity, options_len, code, octets_at(data),
+                                                 data_len));
+}
+
+dnsnames_status dnsnames_append_cookie(uint8_t *options, size_t capacity, size_t *options_len, const uint8_t *client,
+                                       const uint8_t *server, size_t server_len)
+{
+    return GUARDED(no_options(options, capacity, options_len) || client == NULL || is_null(server, server_len),
+                   proved_dnsnames_append_cookie(room_at(options), capacity, options_len, client, octets_at(server),
+                                                 server_len));
+}
+
+dnsnames_status dnsnames_append_client_subnet(uint8_t *options, size_t capacity, size_t *options_len, uint16_t family,
+                                              uint8_t source_prefix_len, uint8_t scope_prefix_len,
+                                              const uint8_t *address, size_t address_len)
+{
+    return GUARDED(no_options(options, capacity, options_len) || is_null(address, address_len),
+                   proved_dnsnames_append_client_subnet(room_at(options), capacity, options_len, family,
+                                                        source_prefix_len, scope_prefix_len, octets_at(address),
+                                                        address_len));
+}
+
+dnsnames_status dnsnames_append_extended_error(uint8_t *options, size_t capacity, size_t *options_len,
+                                               uint16_t info_code, const uint8_t *text, size_t text_len)
+{
+    return GUARDED(no_options(options, capacity, options_len) || is_null(text, text_len),
+                   proved_dnsnames_append_extended_error(room_at(options), capacity, options_len, info_code,
+                                                         octets_at(text), text_len));
+}
+
+dnsnames_status dnsnames_cookie(const uint8_t *option, size_t option_len, size_t *server_len)
+{
+    return GUARDED(is_null(option, option_len) || server_len == NULL,
+                   proved_dnsnames_cookie(octets_at(option), option_len, server_len));
+}
+
+dnsnames_status dnsnames_client_subnet(const uint8_t *option, size_t option_len, dnsnames_subnet_fields *subnet)
+{
+    return GUARDED(is_null(option, option_len) || subnet == NULL,
+                   proved_dnsnames_client_subnet(octets_at(option), option_len, &subnet->family,
+                                                 &subnet->source_prefix_len, &subnet->scope_prefix_len));
+}
+
+dnsnames_status dnsnames_extended_error(const uint8_t *option, size_t option_len, uint16_t *info_code)
+{
+    return GUARDED(is_null(option, option_len) || info_code == NULL,
+                   proved_dnsnames_extended_error(octets_at(option), option_len, info_code));
 }
 
 /* Puts a zero octet after a text that is whole or ends at a fault, where there is room for it. */
@@ -546,6 +621,14 @@ dnsnames_status dnsnames_builder_opt(dnsnames_builder *builder, uint16_t size, u
     return GUARDED(leads_nowhere(builder) || is_null(options, options_len),
                    proved_dnsnames_builder_opt(room_at(builder->octets), builder->capacity, &builder->state, size,
                                                rcode_ext, version, dnssec_ok, octets_at(options), options_len));
+}
+
+dnsnames_status dnsnames_builder_opt_flags(dnsnames_builder *builder, uint16_t size, uint8_t rcode_ext, uint8_t version,
+                                           uint16_t flags, const uint8_t *options, size_t options_len)
+{
+    return GUARDED(leads_nowhere(builder) || is_null(options, options_len),
+                   proved_dnsnames_builder_opt_flags(room_at(builder->octets), builder->capacity, &builder->state, size,
+                                                     rcode_ext, version, flags, octets_at(options), options_len));
 }
 
 dnsnames_status dnsnames_builder_truncate(dnsnames_builder *builder)

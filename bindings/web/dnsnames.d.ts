@@ -69,12 +69,39 @@ export interface Opt {
     rcode: number;
     version: number;
     dnssecOk: boolean;
+    compactOk: boolean;
 }
 
 /** An option of an OPT record. */
 export interface EdnsOption {
     code: number;
     data: Uint8Array;
+}
+
+/** The codes of some options. */
+export const OPTIONS: Readonly<
+    Record<"NSID" | "CLIENT_SUBNET" | "COOKIE" | "TCP_KEEPALIVE" | "PADDING" | "EXTENDED_ERROR", number>
+>;
+
+/** Cookies: `client` has 8 octets, `server` 8 to 32, or none. */
+export interface Cookie {
+    client: Uint8Array;
+    server: Uint8Array;
+}
+
+/** The subnet of a client: `source` is how many bits of the address are encoded, `scope` for how many an answer is
+ *  meant. */
+export interface ClientSubnet {
+    family: number;
+    source: number;
+    scope: number;
+    address: Uint8Array;
+}
+
+/** An extended error. */
+export interface ExtendedError {
+    infoCode: number;
+    text: string;
 }
 
 /** The sections of records (RFC 1035, 4.1). */
@@ -107,6 +134,7 @@ export interface MessageBuilder {
         rcode?: number;
         version?: number;
         dnssecOk?: boolean;
+        compactOk?: boolean;
         /** Each a code and octets; octets in place of the list are options in wire format. */
         options?: Iterable<EdnsOption> | Uint8Array;
     }): void;
@@ -146,6 +174,12 @@ export class DnsNames {
     stringsInData(message: Uint8Array, record: DnsRecord): Generator<Uint8Array, void, undefined>;
     opt(record: DnsRecord, flags?: number): Opt;
     optionsInData(message: Uint8Array, record: DnsRecord): Generator<EdnsOption, void, undefined>;
+    makeCookie(client: Uint8Array, server?: Uint8Array): EdnsOption;
+    readCookie(option: EdnsOption): Cookie | null;
+    makeClientSubnet(subnet: Omit<ClientSubnet, "scope"> & { scope?: number }): EdnsOption;
+    readClientSubnet(option: EdnsOption): ClientSubnet | null;
+    makeExtendedError(infoCode: number, text?: string): EdnsOption;
+    readExtendedError(option: EdnsOption): ExtendedError | null;
     isAnswer(message: Uint8Array, query: Uint8Array): boolean;
     canonicalName(message: Uint8Array, limit?: number): { octets: Uint8Array; text: string } | null;
     messageText(message: Uint8Array): string;

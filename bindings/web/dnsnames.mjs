@@ -33,6 +33,15 @@ export const FIELDS = Object.freeze({
     BASE64: 25, OCTETS: 26,
 });
 
+/** The codes of some EDNS options, by the numbers that IANA registered them under. */
+export const OPTIONS = Object.freeze({
+    NSID: 3, CLIENT_SUBNET: 8, COOKIE: 10, TCP_KEEPALIVE: 11, PADDING: 12, EXTENDED_ERROR: 15,
+});
+// The flags of EDNS (RFC 6891, 6.1.4; RFC 3225, 3; RFC 9824, 5.1).
+const EDNS = { DO: 0x8000, CO: 0x4000 };
+// An option begins with its code and its length; the cookie of a client has as many octets, that of a server at most.
+const OPTION_HEAD = 4, CLIENT_COOKIE = 8, SERVER_COOKIE = 32;
+
 // A row of the module's table has eight numbers of 32 bits; no question or record has fewer than five octets.
 const ROW_LEN = 8;
 const LEAST_ENTRY = 5;
@@ -63,7 +72,7 @@ const FAULTS = new Map([
     [24, ["WrongOrder", "a later section was begun", "RFC 1035, 4.1"]],
     [25, ["TooManyEntries", "too many entries in a section", "RFC 1035, 4.1.1"]],
     [26, ["NoSection", "no such section", "RFC 1035, 4.1"]],
-    [28, ["BadForm", "an entry hasn't the form of one", "RFC 1035, 4.1"]],
+    [28, ["BadForm", "an entry or an option hasn't the form of one", "RFC 1035, 4.1; RFC 6891, 6.1.2"]],
     [32, ["BadTag", "invalid tag", "RFC 8659, 4.1"]],
     [33, ["EmptyHash", "empty hash", "RFC 5155, 3.1.6"]],
     [34, ["WindowOrder", "windows of a type bitmap don't ascend", "RFC 4034, 4.1.2"]],
@@ -75,6 +84,8 @@ const FAULTS = new Map([
 const NO_MORE = 27;
 // Its status where a text needs more room.
 const NO_ROOM = 8;
+// Its status where an option hasn't its form.
+const BAD_FORM = 28;
 // Its status where aliases lead to no name.
 const NO_END = 30;
 
@@ -150,9 +161,7 @@ export class DnsNames {
 
     /** The octets of the name that a text spells. */
     fromText(text) {
-        // A lone surrogate is no character; as an octet that is no UTF-8 it is refused as one.
-        const octets = isWellFormed(text) ? new TextEncoder().encode(text) : Uint8Array.of(0xff);
-        return this.#made("from_text", octets, [], MAX_LEN);
+        return this.#made("from_text", utf8(text), [], MAX_LEN);
     }
 
     /** The text of a name. */
@@ -304,11 +313,12 @@ export class DnsNames {
     opt(record, flags = 0) {
         const fields = [whole("type", record.type, 16), whole("class", record.class, 16), whole("ttl", record.ttl, 32)];
         this.#begin();
-        const [size, rcode, version, dnssecOk] = this.#results(4);
-        this.#call("opt", record.offset, ...fields, whole("flags", flags, 16), size, rcode, version, dnssecOk);
+        const results = this.#results(5), [size, rcode, version, bits] = results;
+        this.#call("opt", record.offset, ...fields, whole("flags", flags, 16), ...results);
+        const told = this.#number16(bits);
         return {
             size: this.#number16(size), rcode: this.#number16(rcode), version: this.#view().getUint8(Number(version)),
-            dnssecOk: this.#view().getUint32(Number(dnssecOk), true) !== 0,
+            dnssecOk: (told & EDNS.DO) !== 0, compactOk: (told & EDNS.CO) !== 0,
         };
     }
 
@@ -319,6 +329,70 @@ export class DnsNames {
         for (const [code, begin, length] of this.#each("data_option", message, record, 3, read)) {
             yield { code, data: message.slice(begin, begin + length) };
         }
+    }
+
+    /** An option with the cookie of a client, of 8 octets, which the program draws at random, and that of a server, of 8
+     *  to 32 octets, if it isn't empty (RFC 7873, 4). BadForm for other lengths. */
+    makeCookie(client, server = new Uint8Array(0)) {
+        if (client instanceof Uint8Array && client.length !== CLIENT_COOKIE) throw new NameFault(BAD_FORM);
+        const most = CLIENT_COOKIE + SERVER_COOKIE;
+        return this.#option("append_cookie", most, [client, server], ([[at], slice]) => [at, ...slice]);
+    }
+
+    /** The cookies that an option is; null for another code. ShortInput below 8 octets, BadForm for other lengths. */
+    readCookie({ code, data }) {
+        if (code !== OPTIONS.COOKIE) return null;
+        const [slice] = this.#begin(data);
+        const [length] = this.#results(1);
+        this.#call("cookie", undefined, ...slice, length);
+        return { client: data.slice(0, CLIENT_COOKIE), server: data.slice(data.length - this.#size(length)) };
+    }
+
+    /** An option with the subnet of a client (RFC 7871, 6): the family of its address (1 IPv4, 2 IPv6), how many bits of
+     *  it are encoded, and for how many an answer is meant, which is 0 in a query. The other bits of the address aren't
+     *  written. BadForm for another family, or more bits than its addresses have; ShortInput where the address has
+     *  fewer. */
+    makeClientSubnet({ family, source, scope = 0, address }) {
+        const numbers = [whole("family", family, 16), whole("source", source, 8), whole("scope", scope, 8)];
+        return this.#option("append_client_subnet", 20, [address], ([slice]) => [...numbers, ...slice]);
+    }
+
+    /** The subnet that an option is; null for another code. Its address has as few octets as have the encoded bits.
+     *  ShortInput where it ends too soon, BadForm for another family, more bits, or an address longer than these. */
+    readClientSubnet({ code, data }) {
+        if (code !== OPTIONS.CLIENT_SUBNET) return null;
+        const [slice] = this.#begin(data);
+        const results = this.#results(3);
+        this.#call("client_subnet", undefined, ...slice, ...results);
+        const [source, scope] = results.slice(1).map((result) => this.#view().getUint8(Number(result)));
+        return { family: this.#number16(results[0]), source, scope, address: data.slice(OPTION_HEAD) };
+    }
+
+    /** An option with an extended error: its code, and its text (RFC 8914, 2). */
+    makeExtendedError(infoCode, text = "") {
+        const octets = utf8(text), number = whole("infoCode", infoCode, 16);
+        return this.#option("append_extended_error", 2 + octets.length, [octets], ([slice]) => [number, ...slice]);
+    }
+
+    /** The extended error that an option is; null for another code. What of its text isn't UTF-8 is shown as U+FFFD.
+     *  ShortInput below 2 octets. */
+    readExtendedError({ code, data }) {
+        if (code !== OPTIONS.EXTENDED_ERROR) return null;
+        const [slice] = this.#begin(data);
+        const [result] = this.#results(1);
+        this.#call("extended_error", undefined, ...slice, result);
+        const text = new TextDecoder("utf-8", { ignoreBOM: true }).decode(data.subarray(2));
+        return { infoCode: this.#number16(result), text };
+    }
+
+    // The option that a call writes, with at most this many octets of data.
+    #option(call, most, parts, values) {
+        const [room, ...slices] = this.#begin(OPTION_HEAD + most, ...parts);
+        const [length] = this.#results(1);
+        this.#view().setBigUint64(Number(length), 0n, true);
+        this.#call(call, undefined, ...room, length, ...values(slices));
+        const octets = this.#octets(room, length);
+        return { code: octets[0] * 256 + octets[1], data: octets.slice(OPTION_HEAD) };
     }
 
     // What `read` finds in so many results of a call for each string or option of data, up to its fault. All are
@@ -500,12 +574,12 @@ export class DnsNames {
                     whole("ttl", ttl, 32), ...rest,
                 ]),
             /** Pushes an OPT record (RFC 6891, 6.1): the size of messages over UDP, the upper eight bits of a response
-             *  code of twelve, the bit DO, and options, each a `code` and octets as `data`. Octets in place of the list
-             *  are options in wire format: RangeError where they end inside one. */
-            opt: ({ size = 1232, rcode = 0, version = 0, dnssecOk = false, options = [] } = {}) =>
-                push("opt", [this.#wireOptions(options)], ([slice]) => [
+             *  code of twelve, the bits DO and CO, and options, each a `code` and octets as `data`. Octets in place of
+             *  the list are options in wire format: RangeError where they end inside one. */
+            opt: ({ size = 1232, rcode = 0, version = 0, dnssecOk = false, compactOk = false, options = [] } = {}) =>
+                push("opt_flags", [this.#wireOptions(options)], ([slice]) => [
                     whole("size", size, 16), whole("rcode", rcode, 12) >> 4, whole("version", version, 8),
-                    dnssecOk ? 1 : 0, ...slice,
+                    (dnssecOk ? EDNS.DO : 0) | (compactOk ? EDNS.CO : 0), ...slice,
                 ]),
             /** Takes all records away again, and sets the flag TC (RFC 2181, 9). */
             truncate: () => push("truncate", [], () => []),
@@ -685,6 +759,11 @@ function labelsOf(octets) {
     const labels = [];
     for (let at = 0; at < octets.length; at += 1 + octets[at]) labels.push(octets.slice(at + 1, at + 1 + octets[at]));
     return labels;
+}
+
+// A lone surrogate is no character; as an octet that is no UTF-8 it is refused as one.
+function utf8(text) {
+    return isWellFormed(text) ? new TextEncoder().encode(text) : Uint8Array.of(0xff);
 }
 
 function isWellFormed(text) {

@@ -4,7 +4,7 @@
 //     node --experimental-wasm-memory64 test_module.mjs dnsnames_c.wasm
 import assert from "node:assert/strict";
 import { readFileSync } from "node:fs";
-import { DnsNames, FIELDS, FLAGS, load, NameFault } from "./dnsnames.mjs";
+import { DnsNames, FIELDS, FLAGS, load, NameFault, OPTIONS } from "./dnsnames.mjs";
 
 const dns = await load(readFileSync(process.argv[2]));
 const from = (text) => dns.fromText(text);
@@ -27,7 +27,7 @@ assert.equal(hosts.get(dns.key(from("example.com"))), undefined);
 assert.equal(dns.key(from("\\255")).charCodeAt(1), 255);
 
 // A response: the name a, answered by a CNAME record whose data are a pointer to it, and an SOA record.
-const octets = (text) => Uint8Array.from(text.match(/../g), (digits) => parseInt(digits, 16));
+const octets = (text) => Uint8Array.from(text.match(/../g) ?? [], (digits) => parseInt(digits, 16));
 const message = octets(
     "000781800001000100010000" + "016100" + "00010001" + "c00c000500010000003c0002c00c" +
     "00000600010000000000" + "1b" + "016200" + "0163c02c" + "00".repeat(20),
@@ -93,7 +93,9 @@ const texts = [...dns.stringsInData(...ofData(16, octets("03616263" + "00" + "01
 assert.deepEqual(texts.map((text) => new TextDecoder().decode(text)), ["abc", "", "d"]);
 assert.equal(faultOf(() => [...dns.stringsInData(...ofData(16, new Uint8Array(0)))]), "ShortInput");
 const edns = ofData(41, octets("000a00027879" + "fde90000"), 1232, 0x01028000);
-assert.deepEqual(dns.opt(edns[1], dns.header(edns[0]).flags), { size: 1232, rcode: 19, version: 2, dnssecOk: true });
+assert.deepEqual(dns.opt(edns[1], dns.header(edns[0]).flags), {
+    size: 1232, rcode: 19, version: 2, dnssecOk: true, compactOk: false,
+});
 assert.deepEqual([...dns.optionsInData(...edns)].map(({ code, data }) => [code, ...data]), [[10, 120, 121], [65001]]);
 assert.equal(faultOf(() => [...dns.optionsInData(...ofData(41, octets("000a0001")))]), "ShortInput");
 assert.equal(faultOf(() => dns.opt(soa[1])), "NoField");
@@ -173,6 +175,59 @@ for (const option of [
 assert.equal(faultOf(() => optioned.opt({ options: [{ code: 1, data: new Uint8Array(65535) }] })), "NoRoom");
 assert.equal(optioned.length(), 12);
 
+// The bits DO and CO.
+for (const bits of [0, 0x8000, 0x4000, 0xc000]) {
+    const dnssecOk = bits >= 0x8000, compactOk = (bits & 0x4000) !== 0;
+    const building = dns.builder();
+    building.opt({ dnssecOk, compactOk });
+    const [record] = dns.table(building.finish());
+    assert.equal(record.ttl, bits);
+    assert.deepEqual([dns.opt(record).dnssecOk, dns.opt(record).compactOk], [dnssecOk, compactOk]);
+}
+
+// Options by name. The cookies are those of RFC 9018, A.1, the second subnet is that of RFC 7871, 12.
+const client = octets("2464c4abcf10c957"), server = octets("010000005cf79f111f8130c3eee29480");
+assert.deepEqual(dns.makeCookie(client), { code: OPTIONS.COOKIE, data: client });
+assert.deepEqual(dns.makeCookie(client, server), { code: 10, data: Uint8Array.of(...client, ...server) });
+assert.deepEqual(dns.readCookie(dns.makeCookie(client, server)), { client, server });
+assert.deepEqual(dns.readCookie(dns.makeCookie(client)), { client, server: new Uint8Array(0) });
+for (const length of [1, 7, 33]) assert.equal(faultOf(() => dns.makeCookie(client, new Uint8Array(length))), "BadForm");
+for (const length of [0, 7, 9]) assert.equal(faultOf(() => dns.makeCookie(new Uint8Array(length))), "BadForm");
+for (let length = 0; length < 42; length++) {
+    const read = () => dns.readCookie({ code: 10, data: new Uint8Array(length) });
+    if (length === 8 || (length >= 16 && length <= 40)) assert.equal(read().server.length, length - 8);
+    else assert.equal(faultOf(read), length < 8 ? "ShortInput" : "BadForm");
+}
+for (const [family, source, scope, address, data] of [
+    [1, 31, 24, "c00002ff", "00011f18c00002fe"],
+    [2, 56, 0, "20010db8fd13423121128a2ec37b7334", "0002380020010db8fd1342"],
+    [1, 0, 0, "", "00010000"], [0, 0, 0, "", "00000000"],
+]) {
+    const option = dns.makeClientSubnet({ family, source, scope, address: octets(address) });
+    assert.deepEqual(option, { code: OPTIONS.CLIENT_SUBNET, data: octets(data) });
+    assert.deepEqual(dns.readClientSubnet(option), { family, source, scope, address: octets(data.slice(8)) });
+}
+for (const [family, source, length, fault] of [
+    [3, 0, 4, "BadForm"], [1, 33, 16, "BadForm"], [1, 25, 3, "ShortInput"],
+]) {
+    const address = new Uint8Array(length);
+    assert.equal(faultOf(() => dns.makeClientSubnet({ family, source, address })), fault);
+}
+for (const [data, fault] of [
+    ["000118", "ShortInput"], ["00011800c0000200", "BadForm"], ["00011700c00001", "BadForm"],
+]) {
+    assert.equal(faultOf(() => dns.readClientSubnet({ code: 8, data: octets(data) })), fault);
+}
+assert.deepEqual(dns.makeExtendedError(22, "\u00e9"), { code: OPTIONS.EXTENDED_ERROR, data: octets("0016c3a9") });
+assert.deepEqual(dns.readExtendedError(dns.makeExtendedError(65535, "\ufeffa")), { infoCode: 65535, text: "\ufeffa" });
+assert.deepEqual(dns.readExtendedError({ code: 15, data: octets("0007ff") }), { infoCode: 7, text: "\ufffd" });
+assert.equal(faultOf(() => dns.makeExtendedError(1, "\ud800")), "BadSymbol");
+assert.equal(faultOf(() => dns.makeExtendedError(1, "a".repeat(65530))), "NoRoom");
+assert.equal(faultOf(() => dns.readExtendedError({ code: 15, data: octets("00") })), "ShortInput");
+for (const read of ["readCookie", "readClientSubnet", "readExtendedError"]) {
+    assert.equal(dns[read]({ code: OPTIONS.NSID, data: client }), null);
+}
+
 // Names in data are compressed by the record's type: those of MX are, those of SRV aren't.
 const dataOf = (type, hex) => {
     const building = dns.builder({ capacity: 200 });
@@ -209,7 +264,12 @@ for (const [name, bits, call] of [
     ["class", 16, (number) => numbered.record("answer", owner, 1, new Uint8Array(4), { class: number })],
     ["ttl", 32, (number) => numbered.record("answer", owner, 1, new Uint8Array(4), { ttl: number })],
     ["size", 16, (number) => numbered.opt({ size: number })], ["rcode", 12, (number) => numbered.opt({ rcode: number })],
-    ["version", 8, (number) => numbered.opt({ version: number })], ["capacity", 53, (number) => dns.composer(number)],
+    ["version", 8, (number) => numbered.opt({ version: number })],
+    ["family", 16, (number) => dns.makeClientSubnet({ family: number, source: 0, address: client })],
+    ["source", 8, (number) => dns.makeClientSubnet({ family: 1, source: number, address: client })],
+    ["scope", 8, (number) => dns.makeClientSubnet({ family: 1, source: 0, scope: number, address: client })],
+    ["infoCode", 16, (number) => dns.makeExtendedError(number)],
+    ["capacity", 53, (number) => dns.composer(number)],
     ["offset", 53, (number) => placed.setUint16(number, 1)], ["number", 16, (number) => placed.setUint16(4, number)],
 ]) {
     const tells = (kind, number) => assert.throws(() => call(number), (error) => {
@@ -227,7 +287,9 @@ numbered.opt({ size: 65535, rcode: 4095, version: 255, dnssecOk: true });
 const largest = numbered.finish(), [record, largestOpt] = dns.table(largest);
 assert.deepEqual(dns.header(largest), { id: 65535, flags: 65535, questions: 0, answers: 1, authority: 0, additional: 1 });
 assert.deepEqual([record.type, record.class, record.ttl], [65535, 65535, 0xffffffff]);
-assert.deepEqual(dns.opt(largestOpt, 65535), { size: 65535, rcode: 4095, version: 255, dnssecOk: true });
+assert.deepEqual(dns.opt(largestOpt, 65535), {
+    size: 65535, rcode: 4095, version: 255, dnssecOk: true, compactOk: false,
+});
 assert.deepEqual([dns.mnemonic("type", 65535), dns.canonicalName(query, 65535).text], ["TYPE65535", "A."]);
 for (const past of [2 ** 32, 2 ** 32 + 12, Number.MAX_SAFE_INTEGER]) {
     assert.equal(faultOf(() => dns.readName(message, past)), "ShortInput");

@@ -30,7 +30,7 @@ import dns.wire
 
 IN, PRIVATE = 1, 65280
 A, NS, TXT, RP, AAAA, SRV, CERT, OPT, DS, RRSIG, NSEC, DNSKEY = 1, 2, 16, 17, 28, 33, 37, 41, 43, 46, 47, 48
-GPOS, NXT, NSEC3, TALINK, CDS, OPENPGPKEY, ZONEMD, SVCB, HTTPS = 27, 30, 50, 58, 59, 61, 63, 64, 65
+GPOS, NXT, NSEC3, NINFO, TALINK, CDS, OPENPGPKEY, ZONEMD, SVCB, HTTPS = 27, 30, 50, 56, 58, 59, 61, 63, 64, 65
 SPF, LP, EUI48, EUI64, TSIG, URI, DLV = 99, 107, 108, 109, 250, 256, 32769
 CLASSES = {1: "IN", 3: "CH", 4: "HS", 254: "NONE", 255: "ANY"}
 # The types of `data`, of `typed` and of `any`.
@@ -38,7 +38,8 @@ KNOWN = (1, 2, 5, 6, 12, 15, 28, 33, 39)
 TYPED = (13, 35, 43, 44, 46, 47, 48, 52, 257)
 ANY = (1, 2, 5, 6, 12, 15, 16, 17, 18, 21, 26, 28, 33, 36, 39, 64, 65) + TYPED
 # Types that dnspython doesn't know, and one with the same fields that it knows.
-SAME_FIELDS = {3: NS, 4: NS, 7: NS, 8: NS, 9: NS, 14: RP, 24: RRSIG, 25: DNSKEY, TALINK: RP, 258: TXT}
+SAME_FIELDS = {3: NS, 4: NS, 7: NS, 8: NS, 9: NS, 14: RP, 24: RRSIG, 25: DNSKEY, 57: DNSKEY, TALINK: RP,
+               67: OPENPGPKEY, 68: OPENPGPKEY, 258: TXT, 261: TXT, 262: TXT, 263: TXT}
 # Types of digests, and the place of the octet that tells which digest it is.
 OF_DIGESTS = {DS: 3, CDS: 3, ZONEMD: 5, DLV: 3}
 # Types whose data dnspython reads by its fields in class IN alone.
@@ -68,8 +69,8 @@ NOT_THERE = ("dnspython doesn't know NXT, nor a type with such fields", "RFC 253
 # What dnspython alone takes: why it is refused here, and of which data, uncompressed and as in the message.
 REFUSED = (
     ("record data has at most 65,535 octets", "RFC 1035, 3.2.1", lambda rtype, plain, octets: len(octets) > 65535),
-    ("TXT and SPF have at least one string", "RFC 1035, 3.3.14; RFC 4408, 3.1.1",
-     lambda rtype, plain, octets: rtype in (TXT, SPF) and not octets),
+    ("TXT and types like it have at least one string", "RFC 1035, 3.3.14; RFC 4408, 3.1.1; RFC 9606, 4",
+     lambda rtype, plain, octets: rtype in (TXT, NINFO, SPF, 261, 262, 263) and not octets),
     ("the hash of NSEC3 has at least one octet", "RFC 5155, 3.2", lambda rtype, plain, octets: rtype == NSEC3),
     ("NSEC has at least one block of types", "RFC 4034, 4.1.2",
      lambda rtype, plain, octets: rtype == NSEC and name_end(plain) == len(plain)),
@@ -403,7 +404,7 @@ def text_there(rtype, data):
     if VALUES in noted:
         return text_of_services(octets)
     # Asked for words of another size, dnspython 2.3 fails of these types, whose words have one size.
-    return data.to_text() if rtype in (OPENPGPKEY, EUI48, EUI64) else data.to_text(chunksize=0)
+    return data.to_text() if rtype in (OPENPGPKEY, 67, 68, EUI48, EUI64) else data.to_text(chunksize=0)
 
 
 def text_reasons(rtype, data, wanted):

@@ -3,8 +3,8 @@
 
     dnspython_text.py LINES ANSWERS
 
-LINES and ANSWERS are files such as `stdin` and `stdout`. Each row is said as a row `read` of the table of texts, and
-dnspython.py there compares it: crates/conformance_texts has when one passes. The last line is 'N passed, N failed', and
+LINES and ANSWERS are files such as `stdin` and `stdout`. Each row is said as a row `read` of the table of zones, and
+dnspython.py there compares it: crates/conformance_zones has when one passes. The last line is 'N passed, N failed', and
 the status 1 where one failed. It needs Debian's python3-dnspython.
 """
 import os
@@ -16,7 +16,7 @@ import second_text
 
 
 def said(line):
-    """The same row of the table of texts."""
+    """The same row of the table of zones."""
     rclass, rtype, text = second_text.asked(line)
     return f"read {rtype} {rclass} hex:{text.hex() or '-'}"
 

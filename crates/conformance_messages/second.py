@@ -178,12 +178,14 @@ OTHERS = {
     50: "112hHM", 51: "112h",  # RFC 5155
     53: "111x",  # RFC 8162
     55: "y",  # RFC 8005
+    56: "S", 57: "211b",  # the templates of NINFO and RKEY in IANA's registry
     58: "ww",  # the template of TALINK in IANA's registry
     59: "211x", 60: "211b",  # RFC 7344
     61: "b",  # RFC 7929
     62: "42M",  # RFC 7477
     63: "411x",  # RFC 8976
     64: "2wv", 65: "2wv",  # RFC 9460
+    67: "b", 68: "b",  # RFC 9886
     99: "S",  # RFC 4408
     104: "28", 105: "2a", 106: "28", 107: "2w",  # RFC 6742
     108: "6", 109: "8",  # RFC 7043
@@ -192,6 +194,8 @@ OTHERS = {
     256: "22q",  # RFC 7553
     258: "S",  # the template of AVC in IANA's registry
     260: "y",  # RFC 8777
+    261: "S",  # RFC 9606
+    262: "S", 263: "S",  # the templates of WALLET and CLA in IANA's registry
     32769: "211x",  # RFC 4431
 }
 # The types whose fields `any` knows

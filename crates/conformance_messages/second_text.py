@@ -1,35 +1,24 @@
 #!/usr/bin/env python3
-"""Answers the lines `text` of the conformance table of messages by the reader of the table of texts, which is written
-from the standards: second.py of crates/conformance_texts.
+"""Answers the lines `text` of the conformance table of messages by the reader of data in the table of zones, which
+is written from the standards: second_data.py of crates/conformance_zones.
 
     second_text.py < LINES
 
 An offset is counted from 0, and reasons are as that page has them. Another line is answered by `bad`.
 """
-import importlib.util
 import os
 import sys
 
 import second
 
-FOLDER = os.path.join(os.path.dirname(os.path.abspath(__file__)), os.pardir, "conformance_texts")
-
-
-def module_of(name):
-    """A module of the table of texts; `second` is one of both tables."""
-    sys.path.append(FOLDER)
-    told = importlib.util.spec_from_file_location("texts_" + name, os.path.join(FOLDER, name + ".py"))
-    module = importlib.util.module_from_spec(told)
-    told.loader.exec_module(module)
-    return module
-
-
-TEXTS = module_of("second")
+FOLDER = os.path.join(os.path.dirname(os.path.abspath(__file__)), os.pardir, "conformance_zones")
+sys.path.append(FOLDER)
+import second_data as texts
 
 
 def words_of(text):
     """The words of a text, each after its offset."""
-    return TEXTS.split_words(text)
+    return texts.split_words(text)
 
 
 def asked(line):
@@ -52,8 +41,8 @@ def answer(line):
         return "bad"
     rclass, rtype, text = found
     try:
-        return "ok " + (TEXTS.read(rtype, rclass, text).hex() or "-")
-    except TEXTS.Refused as refused:
+        return "ok " + (texts.read(rtype, rclass, text).hex() or "-")
+    except texts.Refused as refused:
         return f"err {refused.at} {refused.reason}"
 
 

@@ -457,14 +457,19 @@ LATER = (
      "1 1 12 aabbccdd 2t7b4g4vsa5smi47k61mv5bv1a22bojr NS SOA MX RRSIG DNSKEY NSEC3PARAM"),
     (50, b"\1\0\0\0\0\x14" + HASH, "1 0 0 - 2t7b4g4vsa5smi47k61mv5bv1a22bojr"), (50, b"\1\0\0\0\0\1f\0\1\x40", "1 0 0 - co A"),
     (50, b"\1\0\0\0\0\0", "hash without an octet"), (51, b"\1\0\0\x0c\4\xaa\xbb\xcc\xdd", "1 0 12 aabbccdd"), (51, b"\1\0\0\0\0", "1 0 0 -"),
-    (53, b"\3\1\0\xc6\x80", "3 1 0 c680"), (58, name("A.") + name("b."), "A. b."), (59, u16(60485) + b"\5\1\x2b\xb1", "60485 5 1 2bb1"),
+    (53, b"\3\1\0\xc6\x80", "3 1 0 c680"), (56, b"\5zone1\0", '"zone1" ""'),
+    (57, u16(0) + b"\1\5\1\2\3", "0 1 5 AQID"), (57, u16(0) + b"\1\5", "\\# 4 00 00 01 05"), (58, name("A.") + name("b."), "A. b."), (59, u16(60485) + b"\5\1\x2b\xb1", "60485 5 1 2bb1"),
     (59, u16(0) + b"\0\0\0", "0 0 0 00"), (60, u16(0) + b"\3\0\0", "0 3 0 AA=="), (60, u16(0) + b"\3\0", "\\# 4 00 00 03 00"),
     (61, b"\x98\x33\4", "mDME"), (61, b"", "\\# 0"), (62, u32(66) + u16(3) + b"\0\4\x60\0\0\x08", "66 3 A NS AAAA"), (62, u32(66) + u16(3), "66 3"),
-    (63, u32(2018031900) + b"\1\1" + DIGEST, "2018031900 1 1 " + DIGEST.hex()), (104, u16(10) + bytes(range(8)), "\\# 10 00 0a 00 01 02 03 04 05 06 07"),
+    (63, u32(2018031900) + b"\1\1" + DIGEST, "2018031900 1 1 " + DIGEST.hex()), (67, b"\x86\x18\x1d", "hhgd"), (67, b"", "\\# 0"), (68, b"\xff\xfe", "//4="),
+    (104, u16(10) + bytes(range(8)), "\\# 10 00 0a 00 01 02 03 04 05 06 07"),
     (105, u16(10) + b"\x0a\1\2\0", "10 10.1.2.0"), (107, u16(10) + name("l64-subnet1.example.com."), "10 l64-subnet1.example.com."),
     (108, b"\0\0\x5e\0\x53\x2a", "\\# 6 00 00 5e 00 53 2a"), (249, name("a.") + bytes(12) + b"\0\1\1\0\0", "\\# 20 01 61 00 "),
     (250, name("a.") + bytes(8) + b"\0\1\1" + bytes(6), "\\# 20 01 61 00 "), (256, u16(10) + u16(1) + b"ftp://ftp1.example.com/public",
      '10 1 "ftp://ftp1.example.com/public"'), (32769, u16(60485) + b"\5\1\x2b\xb1", "60485 5 1 2bb1"), (99, b"\6v=spf1\0", '"v=spf1" ""'),
+    (261, b"\x08qnamemin\x0cexterr=15-17\x2ainfourl=https://resolver.example.com/guide",
+     '"qnamemin" "exterr=15-17" "infourl=https://resolver.example.com/guide"'),
+    (262, b"\x03BTC\x04a\"b;", '"BTC" "a\\"b;"'), (263, b"\6TCP-v4\6TCP-v6", '"TCP-v4" "TCP-v6"'),
 )
 
 

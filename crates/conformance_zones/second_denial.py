@@ -4,7 +4,7 @@ to a name."""
 
 import bisect
 
-from second import DS, NS, NSEC, Zone, labels_of, shown
+from second_zone import DS, NS, NSEC, Zone, in_section, labels_of, shown
 
 
 def canonical(labels):
@@ -29,7 +29,7 @@ def nsec_for(names, labels):
     """The NSEC RRset at a name, or the one that covers it, as a list of it or of none."""
     place = bisect.bisect_right([it for it, _ in names], canonical(labels))
     sets = names[place - 1][1].sets
-    return [shown(NSEC, sets[NSEC])] if NSEC in sets else []
+    return [in_section(NSEC, sets[NSEC])] if NSEC in sets else []
 
 
 def closest_encloser(zone, labels):
@@ -47,7 +47,7 @@ def denial(zone, name, rtype):
     answer, labels = zone.answer(name, rtype)[0], labels_of(name)
     if answer.startswith("referral"):
         sets = zone.owned(labels_of(answer.split(" ")[1]))
-        return [shown(it, sets[it]) for it in (DS, NSEC) if it in sets][:1]
+        return [in_section(it, sets[it]) for it in (DS, NSEC) if it in sets][:1]
     if not (answer in ("no data", "name error") or answer.startswith("synthesized")):
         return []
     names = chain(zone)
@@ -64,4 +64,4 @@ def answers(apex, records, questions):
     said = "".join(zone.insert(*it) for it in records)
     if not (zone.is_zone() and zone.wildcards_fit()):
         return f"{said} no zone"
-    return "; ".join([said, *(",".join(denial(zone, *it)) or "-" for it in questions)])
+    return "; ".join([said, *(",".join(shown(*one) for one in denial(zone, *it)) or "-" for it in questions)])

@@ -2,7 +2,7 @@
 """Compares what `dnszone ask` prints with what an independent reader says: dnspython_asked.py ZONE ASKED [--write]
 
 ASKED has questions about the zone of a text, `$ dnszone ask [--dnssec] NAME TYPE`, each with the lines of its answer.
-dnspython reads the zone and makes the query. The second writer of conformance_responses makes the message that
+dnspython reads the zone and makes the query. The second writer of conformance_zones makes the message that
 answers it, from the RFCs, and dnspython reads that message, whose lines must be those in ASKED. With --write they are
 written there. Nothing of this is the program's."""
 
@@ -20,7 +20,7 @@ import dns.rdatatype
 import dns.zone
 from dnspython import text_of
 
-sys.path.insert(0, str(pathlib.Path(__file__).resolve().parents[1] / "conformance_responses"))
+sys.path.insert(0, str(pathlib.Path(__file__).resolve().parents[1] / "conformance_zones"))
 import second_writer as writer
 
 # How many octets the server takes in a datagram.

@@ -191,7 +191,8 @@ class Report:
             "`evidence/compare/registries` checks whether the types, classes, codes and options here have IANA's "
             "numbers and words. It compares each with the copy of the registry that Net::DNS has, and prints what is "
             "later than that copy. What `dnszone` and name servers answer to the same queries: "
-            "[last run](../evidence/zones/last-run.md)."), "")
+            "[last run](../evidence/zones/last-run.md). What large zones cost here and in other programs: "
+            "[size.md](../evidence/zones/size.md)."), "")
 
     def differences(self):
         self.say("## Where this project differs", "")

@@ -1,6 +1,6 @@
 #!/usr/bin/env python3
 """Asks the zones of the conformance table with `dnszone answer`, and compares each message, octet by octet, with that
-of second_writer.py of conformance_responses: every question of the table without EDNS, with EDNS of several sizes and
+of second_writer.py of conformance_zones: every question of the table without EDNS, with EDNS of several sizes and
 with DO, over a datagram and over a stream, and queries that aren't answered.
 
     evidence/responses/check.py [--zones N] [--try]
@@ -16,8 +16,8 @@ import sys
 
 TOP = pathlib.Path(__file__).resolve().parents[2]
 sys.dont_write_bytecode = True
-sys.path.insert(0, str(TOP / "crates/conformance_responses"))
-from table import query, writer, zones
+sys.path.insert(0, str(TOP / "crates/conformance_zones"))
+from response_rows import query, writer, zones
 
 SIZE = 1232
 
@@ -70,7 +70,7 @@ def table():
     drawn = False
     for line in (TOP / "crates/conformance_zones/stdin").read_text().splitlines():
         if line.startswith("#"):
-            drawn = drawn or "drawn" in line
+            drawn = "drawn" in line
         if not line.startswith("zone ") or line.endswith(" -"):
             continue
         _, apex, records, questions = line.split(" ")

@@ -6,7 +6,7 @@
 
 SERVER is nsd, knotd or named; by default, each that is installed. The program is the one that `./build dnszone` makes.
 --try builds its sources without a proof instead, once for all queries, and --program takes another file. With --second
-the second writer of crates/conformance_responses answers in place of the program. --most N asks at most N questions
+the second writer of crates/conformance_zones answers in place of the program. --most N asks at most N questions
 about each zone of texts.py, and four times as many about each signed one. --zones N takes only the first N zones of
 the conformance table, and --only takes only the zones with these words in their names. --write writes last-run.md
 beside this script; else the page is printed. What differs and isn't in differences.py fails. The last line is 'N

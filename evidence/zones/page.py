@@ -46,7 +46,7 @@ KINDS = {
     "built": "",
     "unproved": "The program was a build of these sources without their proofs (`rt try`).",
     "second": "In this run the second writer of responses "
-    "([conformance_responses](../../crates/conformance_responses/README.md)) answered in place of the program: "
+    "([conformance_zones](../../crates/conformance_zones/README.md)) answered in place of the program: "
     "`evidence/responses/check.py` compares the two octet by octet. It knows no backslash in names, so the zone of "
     "special characters was left out.",
 }
@@ -54,10 +54,11 @@ LIMITS = [
     "Zones with NSEC3 records: `dnszone` refuses that type "
     "([domain_zone](../../crates/domain_zone/README.md#faults)). The signed zones have NSEC.",
     "Wildcards that own NS or DNAME, which `dnszone` refuses (RFC 4592, 4.2 and 4.4).",
-    "Text that one of the four refuses: relative names in data and TTLs with units in an SOA (`dnszone`), the end of "
-    "a line between quotes (BIND), a name that ends in `\\\\` (NSD).",
+    "Text that one of the four refuses: `$INCLUDE`, mnemonics of algorithms, and fields without a text of their own, "
+    "as those of SVCB and LOC (`dnszone`, by [domain_rdata_text](../../crates/domain_rdata_text/README.md#what-is-read)"
+    "), the end of a line between quotes (BIND), a name that ends in `\\\\` (NSD).",
     "Queries that aren't a question of class IN to a zone: what comes of these is in "
-    "[conformance_responses](../../crates/conformance_responses/README.md).",
+    "[conformance_zones](../../crates/conformance_zones/README.md).",
     "The order of records and RRsets, and which names are compressed.",
 ]
 

@@ -14,7 +14,7 @@ from name_servers import SIZE
 from zone import SECTIONS, WHOLE, response_of
 
 CRATE = pathlib.Path(__file__).resolve().parents[2] / "crates" / "dnszone"
-sys.path.insert(0, str(CRATE.parent / "conformance_responses"))
+sys.path.insert(0, str(CRATE.parent / "conformance_zones"))
 BUILT = CRATE / "out" / "dnszone"
 LINE = re.compile(r"((?:[^\s\\]|\\.)+) (\d+) IN (\S+) (.*)")
 

@@ -1,6 +1,6 @@
 """The zones that beside_servers.py has as texts, and the questions to each. What is drawn at random has a fixed seed.
 
-In a text, ~ stands for the apex without its final dot. Names in data are absolute: `dnszone` takes no others."""
+In a text, ~ stands for the apex without its final dot. Names in data are absolute, except in RELATIVE."""
 
 import hashlib
 import random
@@ -248,7 +248,7 @@ kx KX 1 mail.~.
 """
 TTLS = """$ORIGIN ~.
 $TTL 1h30m
-@ 1d IN SOA ns.~. host.~. 7 86400 7200 2419200 3600
+@ 1d IN SOA ns.~. host.~. 7 1d 2h 4w 1h
 @ NS ns.~.
 ns 0 A 192.0.2.1
 a A 192.0.2.2
@@ -262,6 +262,40 @@ x.g 7 A 192.0.2.6
 *.h 9 CNAME none.~.
 cut 11 NS ns.cut.~.
 ns.cut 13 A 192.0.2.7
+"""
+# Names in data go on with the origin of their line.
+RELATIVE = """$ORIGIN ~.
+$TTL 3600
+@ IN SOA ns host 7 86400 7200 2419200 300
+  NS ns
+  NS ns.sub
+  MX 10 mail
+  MX 20 @
+ns A 192.0.2.1
+mail A 192.0.2.2
+www CNAME mail
+up CNAME @
+cut NS ns.cut
+cut NS ns
+ns.cut A 192.0.2.3
+dn DNAME sub
+rp RP host.mail note
+*.w CNAME www
+*.v SRV 0 0 1 mail
+$ORIGIN sub.~.
+@ MX 10 mail
+mail A 192.0.2.4
+ns A 192.0.2.5
+www CNAME mail
+out CNAME mail.~.
+there CNAME mail.sub
+cut NS ns.cut
+ns.cut AAAA 2001:db8::5
+naptr NAPTR 100 50 "s" "http+I2L+I2C" "" _http._tcp
+$ORIGIN test.
+mail.~. TXT "its origin is above the apex"
+to.sub.~. CNAME mail.sub.relative
+a.~. KX 1 mail.relative
 """
 LOW_SOA = """$ORIGIN ~.
 ~. 30 IN SOA ns.~. host.~. 7 86400 7200 2419200 300
@@ -383,6 +417,7 @@ def zones():
         yield name, f"z{number}.test.", (HEAD + OWN_ADDRESS + text).replace("~", f"z{number}.test")
     yield "units of TTLs", "ttl.test.", TTLS.replace("~", "ttl.test")
     yield "an SOA with a low TTL", "soa.test.", LOW_SOA.replace("~", "soa.test")
+    yield "relative names in data", "relative.test.", RELATIVE.replace("~", "relative.test")
 
 
 def asked_names(apex, owners, targets):

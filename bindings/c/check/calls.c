@@ -867,8 +867,14 @@ static void opt_records(void)
 
     CHECK(dnsnames_opt(DNSNAMES_TYPE_OPT, 1232, 0x01028000, 0x8183, &opt) == DNSNAMES_OK);
     CHECK(opt.size == 1232 && opt.rcode == 19 && opt.version == 2 && opt.dnssec_ok == 1);
+    CHECK(opt.flags == DNSNAMES_EDNS_FLAG_DO);
     CHECK(dnsnames_opt(DNSNAMES_TYPE_OPT, 511, 0x00007fff, 0, &opt) == DNSNAMES_OK);
-    CHECK(opt.size == 512 && opt.rcode == 0 && opt.version == 0 && opt.dnssec_ok == 0);
+    CHECK(opt.size == 512 && opt.rcode == 0 && opt.version == 0 && opt.dnssec_ok == 0 && opt.flags == 0x7fff);
+    /* CO without DO (RFC 9824, 5.1). */
+    CHECK(dnsnames_opt(DNSNAMES_TYPE_OPT, 511, 0x00004000, 0, &opt) == DNSNAMES_OK);
+    CHECK(opt.flags == DNSNAMES_EDNS_FLAG_CO && opt.dnssec_ok == 0);
+    /* The flags stand where no field of earlier versions was. */
+    CHECK(sizeof opt == 12 && offsetof(dnsnames_opt_fields, dnssec_ok) == 8);
     CHECK(dnsnames_opt(DNSNAMES_TYPE_TXT, 1232, 0x01028000, 3, &opt) == DNSNAMES_NO_FIELD && opt.size == 512);
 
 #define OPTION(len, data_len) dnsnames_data_option(octets, len, 0, data_len, DNSNAMES_TYPE_OPT, &passed, &code, &end, &length)
@@ -882,6 +888,108 @@ static void opt_records(void)
     CHECK(dnsnames_data_option(octets, 10, 0, 10, 40, &passed, &code, &end, &length) == DNSNAMES_NO_FIELD);
     CHECK(passed == 0 && code == 65001);
 #undef OPTION
+}
+
+/* An option is written after three octets, whatever is there, or not at all. */
+#define APPENDS(call, octets, ...)                                                                      \
+    do {                                                                                                \
+        mark();                                                                                         \
+        length = 3;                                                                                     \
+        CHECK(call(buffer, sizeof buffer, &length, __VA_ARGS__) == DNSNAMES_OK);                        \
+        CHECK(length == 2 + sizeof(octets) && memcmp(buffer + 3, octets, sizeof(octets) - 1) == 0);     \
+        CHECK(buffer[2] == 0x5a && buffer[length] == 0x5a);                                             \
+        APPENDS_NONE(DNSNAMES_NO_ROOM, call, 1 + sizeof(octets), __VA_ARGS__);                          \
+        APPENDS_NONE(DNSNAMES_BAD_LENGTH, call, 2, __VA_ARGS__);                                        \
+    } while (0)
+
+#define APPENDS_NONE(status, call, capacity, ...)                                                       \
+    do {                                                                                                \
+        mark();                                                                                         \
+        length = 3;                                                                                     \
+        CHECK(call(buffer, capacity, &length, __VA_ARGS__) == (status));                                \
+        CHECK(length == 3 && holds(OCTETS(""), 0));                                                     \
+    } while (0)
+
+static void options_by_name(void)
+{
+    /* RFC 9018, A.1: the cookies of a client and of a server. */
+    static const uint8_t client[8] = {0x24, 0x64, 0xc4, 0xab, 0xcf, 0x10, 0xc9, 0x57};
+    static const uint8_t server[33] = {0x01, 0, 0, 0, 0x5c, 0xf7, 0x9f, 0x11, 0x1f, 0x81, 0x30, 0xc3, 0xee, 0xe2, 0x94,
+                                       0x80};
+    /* RFC 7871, 12: 2001:0db8:fd13:4231:2112:8a2e:c37b:7334, of which 56 bits are encoded. */
+    static const uint8_t ipv6[16] = {0x20, 0x01, 0x0d, 0xb8, 0xfd, 0x13, 0x42, 0x31, 0x21, 0x12, 0x8a, 0x2e, 0xc3, 0x7b,
+                                     0x73, 0x34};
+    static const uint8_t ipv4[4] = {192, 0, 2, 255};
+    static const uint8_t zeros[65532];
+    static uint8_t padded[65536];
+    size_t k;
+
+    APPENDS(dnsnames_append_option, "\0\3\0\0", DNSNAMES_OPTION_NSID, NULL, 0);
+    APPENDS(dnsnames_append_option, "\375\351\0\2xy", 65001, OCTETS("xy"), 2);
+    length = 0;
+    CHECK(dnsnames_append_option(padded, sizeof padded, &length, DNSNAMES_OPTION_PADDING, zeros, 65532) ==
+          DNSNAMES_NO_ROOM);
+    CHECK(length == 0);
+    CHECK(dnsnames_append_option(padded, sizeof padded, &length, DNSNAMES_OPTION_PADDING, zeros, 65531) ==
+          DNSNAMES_OK);
+    CHECK(length == 65535 && memcmp(padded, "\0\14\377\373", 4) == 0);
+    CHECK(dnsnames_append_option(padded, sizeof padded, &length, DNSNAMES_OPTION_NSID, NULL, 0) == DNSNAMES_NO_ROOM);
+
+    APPENDS(dnsnames_append_cookie, "\0\12\0\10" "\x24\x64\xc4\xab\xcf\x10\xc9\x57", client, NULL, 0);
+    APPENDS(dnsnames_append_cookie, "\0\12\0\30" "\x24\x64\xc4\xab\xcf\x10\xc9\x57"
+            "\1\0\0\0\x5c\xf7\x9f\x11\x1f\x81\x30\xc3\xee\xe2\x94\x80", client, server, 16);
+    for (k = 1; k <= 33; k++)
+        if (k < 8 || k > 32)
+            APPENDS_NONE(DNSNAMES_BAD_FORM, dnsnames_append_cookie, 99, client, server, k);
+
+    APPENDS(dnsnames_append_client_subnet, "\0\10\0\13" "\0\2\70\0" "\x20\x01\x0d\xb8\xfd\x13\x42", 2, 56, 0,
+            ipv6, 16);
+    APPENDS(dnsnames_append_client_subnet, "\0\10\0\10" "\0\1\37\30" "\300\0\2\376", 1, 31, 24, ipv4, 4);
+    APPENDS(dnsnames_append_client_subnet, "\0\10\0\7" "\0\1\30\0" "\300\0\2", 1, 24, 0, ipv4, 3);
+    APPENDS(dnsnames_append_client_subnet, "\0\10\0\4" "\0\0\0\0", 0, 0, 0, NULL, 0);
+    APPENDS_NONE(DNSNAMES_BAD_FORM, dnsnames_append_client_subnet, 99, 3, 0, 0, ipv6, 16);
+    APPENDS_NONE(DNSNAMES_BAD_FORM, dnsnames_append_client_subnet, 99, 0, 1, 0, ipv6, 16);
+    APPENDS_NONE(DNSNAMES_BAD_FORM, dnsnames_append_client_subnet, 99, 1, 33, 0, ipv6, 16);
+    APPENDS_NONE(DNSNAMES_BAD_FORM, dnsnames_append_client_subnet, 99, 2, 129, 0, ipv6, 16);
+    APPENDS_NONE(DNSNAMES_SHORT_INPUT, dnsnames_append_client_subnet, 99, 1, 25, 0, ipv4, 3);
+
+    APPENDS(dnsnames_append_extended_error, "\0\17\0\2" "\0\7", 7, NULL, 0);
+    APPENDS(dnsnames_append_extended_error, "\0\17\0\4" "\0\26" "\303\251", 22, OCTETS("\303\251"), 2);
+    APPENDS_NONE(DNSNAMES_BAD_SYMBOL, dnsnames_append_extended_error, 99, 22, OCTETS("\303"), 1);
+}
+
+/* Data of options, of which the first octets are read, and what is read of them. */
+static void reading_options(void)
+{
+    /* 24 bits of 192.0.2.0, for an answer that is meant for 16. */
+    static const uint8_t octets[41] = {0, 1, 24, 16, 192, 0, 2};
+    uint8_t faulty[8] = {0, 1, 31, 0, 192, 0, 2, 1};
+    dnsnames_subnet_fields subnet;
+    uint16_t code;
+    size_t k;
+
+    for (k = 0; k <= 41; k++) {
+        dnsnames_status status = k < 8 ? DNSNAMES_SHORT_INPUT
+                                 : k == 8 || (k >= 16 && k <= 40) ? DNSNAMES_OK : DNSNAMES_BAD_FORM;
+        length = 77;
+        CHECK(dnsnames_cookie(octets, k, &length) == status && length == (status == DNSNAMES_OK ? k - 8 : 77));
+    }
+    memset(&subnet, 0x5a, sizeof subnet);
+    for (k = 0; k < 7; k++)
+        CHECK(dnsnames_client_subnet(octets, k, &subnet) == DNSNAMES_SHORT_INPUT && subnet.family == 0x5a5a);
+    CHECK(dnsnames_client_subnet(octets, 8, &subnet) == DNSNAMES_BAD_FORM && subnet.family == 0x5a5a);
+    CHECK(dnsnames_client_subnet(octets, 7, &subnet) == DNSNAMES_OK);
+    CHECK(subnet.family == 1 && subnet.source_prefix_len == 24 && subnet.scope_prefix_len == 16);
+    CHECK(dnsnames_client_subnet(faulty, 8, &subnet) == DNSNAMES_BAD_FORM && subnet.source_prefix_len == 24);
+    faulty[2] = 32;
+    CHECK(dnsnames_client_subnet(faulty, 8, &subnet) == DNSNAMES_OK && subnet.source_prefix_len == 32);
+    faulty[1] = 3;
+    CHECK(dnsnames_client_subnet(faulty, 8, &subnet) == DNSNAMES_BAD_FORM && subnet.family == 1);
+
+    code = 77;
+    CHECK(dnsnames_extended_error(octets, 1, &code) == DNSNAMES_SHORT_INPUT && code == 77);
+    CHECK(dnsnames_extended_error(octets, 2, &code) == DNSNAMES_OK && code == 1);
+    CHECK(dnsnames_extended_error(octets + 2, 5, &code) == DNSNAMES_OK && code == 0x1810);
 }
 
 static void answers_and_aliases(void)
@@ -1260,6 +1368,15 @@ static void building(void)
     CHECK(dnsnames_builder_finish(&builder, &size) == DNSNAMES_OK && size == 44);
     CHECK(memcmp(buffer, "\x12\x34\3\0\0\1\0\0\0\0\0\1\3www\7example\3com\0\0\1\0\1"
                        "\0\0\51\4\320\1\0\200\0\0\0", 44) == 0);
+
+    /* DO and CO, and a version. */
+    builder = begun(23);
+    CHECK(dnsnames_builder_opt_flags(&builder, 1232, 1, 2, DNSNAMES_EDNS_FLAG_DO | DNSNAMES_EDNS_FLAG_CO, NULL, 0) ==
+          DNSNAMES_OK);
+    CHECK(memcmp(buffer + 12, "\0\0\51\4\320\1\2\300\0\0\0", 11) == 0);
+    STAYS(DNSNAMES_NO_ROOM, builder, dnsnames_builder_opt_flags(&builder, 1232, 0, 0, 0, NULL, 0));
+    CHECK(dnsnames_builder_finish(&builder, &size) == DNSNAMES_OK && size == 23);
+    STAYS(DNSNAMES_NO_BUILDER, builder, dnsnames_builder_opt_flags(&builder, 1232, 0, 0, 0, NULL, 0));
 }
 
 /* The data of a record as they are written into a message whose question is www.example.com, and whose record is of
@@ -1383,6 +1500,7 @@ static void building_refused(void)
         STAYS(DNSNAMES_NO_BUILDER, builder, dnsnames_builder_question(&builder, NAME("\1b"), 1, 1));
         STAYS(DNSNAMES_NO_BUILDER, builder, dnsnames_builder_record(&builder, 1, NAME("\1b"), 1, 1, 0, NULL, 0));
         STAYS(DNSNAMES_NO_BUILDER, builder, dnsnames_builder_opt(&builder, 512, 0, 0, 0, NULL, 0));
+        STAYS(DNSNAMES_NO_BUILDER, builder, dnsnames_builder_opt_flags(&builder, 512, 0, 0, 0, NULL, 0));
         STAYS(DNSNAMES_NO_BUILDER, builder, dnsnames_builder_truncate(&builder));
         STAYS(DNSNAMES_NO_BUILDER, builder, dnsnames_builder_finish(&builder, &size));
     }
@@ -1554,6 +1672,8 @@ int main(void)
     addresses_in_data();
     strings_in_data();
     opt_records();
+    options_by_name();
+    reading_options();
     answers_and_aliases();
     texts_of_messages();
     planning();

@@ -17,6 +17,7 @@ static dnsnames_record_fields record;
 static int32_t order;
 static uint64_t hash;
 static dnsnames_opt_fields opt;
+static dnsnames_subnet_fields subnet;
 static dnsnames_field field;
 static dnsnames_builder builder;
 static const dnsnames_builder_state place;
@@ -33,6 +34,7 @@ static void mark(void)
     memset(&question, 0x5a, sizeof question);
     memset(&record, 0x5a, sizeof record);
     memset(&opt, 0x5a, sizeof opt);
+    memset(&subnet, 0x5a, sizeof subnet);
     memset(&field, 0x5a, sizeof field);
     memset(&builder.state, 0x5a, sizeof builder.state);
     flag = 77;
@@ -63,8 +65,8 @@ static int is_marked(void)
             return 0;
     return length == 77 && end == 77 && table[0] == 0x5a5a && flag == 77 && order == 77 && hash == 77 &&
            is_5a(&header, sizeof header) && is_5a(&question, sizeof question) && is_5a(&record, sizeof record) &&
-           is_5a(rows, sizeof rows) && is_5a(&opt, sizeof opt) && is_5a(&field, sizeof field) &&
-           is_5a(&builder.state, sizeof builder.state);
+           is_5a(rows, sizeof rows) && is_5a(&opt, sizeof opt) && is_5a(&subnet, sizeof subnet) &&
+           is_5a(&field, sizeof field) && is_5a(&builder.state, sizeof builder.state);
 }
 
 #define REFUSES(status, call)      \
@@ -111,6 +113,13 @@ static void empty(void)
     REFUSES(DNSNAMES_SHORT_INPUT, dnsnames_data_address(NONE, 0, 0, 0, 1, buffer, sizeof buffer, &length));
     REFUSES(DNSNAMES_SHORT_INPUT, dnsnames_data_string(NONE, 0, 0, 1, 16, &length, &end, &end));
     REFUSES(DNSNAMES_NO_MORE, dnsnames_data_option(NONE, 0, 0, 0, 41, &length, &number[0], &end, &end));
+    REFUSES(DNSNAMES_SHORT_INPUT, dnsnames_cookie(NONE, 0, &length));
+    REFUSES(DNSNAMES_SHORT_INPUT, dnsnames_client_subnet(NONE, 0, &subnet));
+    REFUSES(DNSNAMES_SHORT_INPUT, dnsnames_extended_error(NONE, 0, &number[0]));
+    REFUSES(DNSNAMES_BAD_LENGTH, dnsnames_append_option(NULL, 0, &length, 3, NONE, 0));
+    REFUSES(DNSNAMES_BAD_LENGTH, dnsnames_append_cookie(NULL, 0, &length, KEY, NONE, 0));
+    REFUSES(DNSNAMES_BAD_LENGTH, dnsnames_append_client_subnet(NULL, 0, &length, 0, 0, 0, NONE, 0));
+    REFUSES(DNSNAMES_BAD_LENGTH, dnsnames_append_extended_error(NULL, 0, &length, 0, NONE, 0));
     REFUSES(DNSNAMES_SHORT_INPUT, dnsnames_is_answer(NONE, 0, NONE, 0, &flag));
     REFUSES(DNSNAMES_SHORT_INPUT, dnsnames_canonical_name(NONE, 0, 16, buffer, sizeof buffer, &length));
     REFUSES(DNSNAMES_SHORT_INPUT, dnsnames_record_text(NONE, 0, 0, buffer, sizeof buffer, &length));
@@ -196,6 +205,14 @@ static void slices(void)
     NULLED(dnsnames_record_text(NONE, 1, 0, buffer, sizeof buffer, &length));
     NULLED(dnsnames_record_text(NAME, sizeof NAME, 0, NULL, 1, &length));
     NULLED(dnsnames_data_option(NONE, 1, 0, 0, 41, &length, &number[0], &end, &end));
+    NULLED(dnsnames_append_option(buffer, sizeof buffer, &length, 3, NONE, 1));
+    NULLED(dnsnames_append_cookie(buffer, sizeof buffer, &length, KEY, NONE, 8));
+    NULLED(dnsnames_append_cookie(buffer, sizeof buffer, &length, NULL, NONE, 0));
+    NULLED(dnsnames_append_client_subnet(buffer, sizeof buffer, &length, 1, 0, 0, NONE, 1));
+    NULLED(dnsnames_append_extended_error(buffer, sizeof buffer, &length, 0, NONE, 1));
+    NULLED(dnsnames_cookie(NONE, 8, &length));
+    NULLED(dnsnames_client_subnet(NONE, 4, &subnet));
+    NULLED(dnsnames_extended_error(NONE, 2, &number[0]));
     NULLED(dnsnames_type_text(1, NULL, 1, &length));
     NULLED(dnsnames_type_from_text(NONE, 1, &number[0]));
     NULLED(dnsnames_class_text(1, NULL, 1, &length));
@@ -216,6 +233,7 @@ static void builders(void)
     NULLED(dnsnames_builder_question(NULL, NAME, sizeof NAME, 1, 1));
     NULLED(dnsnames_builder_record(NULL, 1, NAME, sizeof NAME, 1, 1, 0, NULL, 0));
     NULLED(dnsnames_builder_opt(NULL, 512, 0, 0, 0, NULL, 0));
+    NULLED(dnsnames_builder_opt_flags(NULL, 512, 0, 0, 0, NULL, 0));
     NULLED(dnsnames_builder_truncate(NULL));
     NULLED(dnsnames_builder_finish(NULL, &length));
     NULLED(dnsnames_builder_rrset(NULL, 1, NAME, sizeof NAME, 1, 1, 0, NULL, 0, NULL, 0));
@@ -227,6 +245,7 @@ static void builders(void)
     REFUSES(DNSNAMES_NO_BUILDER, dnsnames_builder_question(&builder, NAME, sizeof NAME, 1, 1));
     REFUSES(DNSNAMES_NO_BUILDER, dnsnames_builder_record(&builder, 1, NAME, sizeof NAME, 1, 1, 0, NULL, 0));
     REFUSES(DNSNAMES_NO_BUILDER, dnsnames_builder_opt(&builder, 512, 0, 0, 0, NULL, 0));
+    REFUSES(DNSNAMES_NO_BUILDER, dnsnames_builder_opt_flags(&builder, 512, 0, 0, 0, NULL, 0));
     REFUSES(DNSNAMES_NO_BUILDER, dnsnames_builder_truncate(&builder));
     REFUSES(DNSNAMES_NO_BUILDER, dnsnames_builder_finish(&builder, &length));
     REFUSES(DNSNAMES_NO_BUILDER, dnsnames_builder_rrset(&builder, 1, NAME, sizeof NAME, 1, 1, 0, NULL, 0, NULL, 0));
@@ -237,6 +256,7 @@ static void builders(void)
     NULLED(dnsnames_builder_question(&builder, NAME, sizeof NAME, 1, 1));
     NULLED(dnsnames_builder_record(&builder, 1, NAME, sizeof NAME, 1, 1, 0, NULL, 0));
     NULLED(dnsnames_builder_opt(&builder, 512, 0, 0, 0, NULL, 0));
+    NULLED(dnsnames_builder_opt_flags(&builder, 512, 0, 0, 0, NULL, 0));
     NULLED(dnsnames_builder_truncate(&builder));
     NULLED(dnsnames_builder_finish(&builder, &length));
     NULLED(dnsnames_builder_rrset(&builder, 1, NAME, sizeof NAME, 1, 1, 0, NULL, 0, NULL, 0));
@@ -249,6 +269,7 @@ static void builders(void)
     NULLED(dnsnames_builder_record(&builder, 1, NONE, 1, 1, 1, 0, NULL, 0));
     NULLED(dnsnames_builder_record(&builder, 1, NAME, sizeof NAME, 1, 1, 0, NONE, 1));
     NULLED(dnsnames_builder_opt(&builder, 512, 0, 0, 0, NONE, 1));
+    NULLED(dnsnames_builder_opt_flags(&builder, 512, 0, 0, 0, NONE, 1));
     NULLED(dnsnames_builder_finish(&builder, NULL));
     NULLED(dnsnames_builder_rewind(&builder, NULL));
 }
@@ -307,6 +328,17 @@ static void results(void)
     NULLED(dnsnames_data_option(NAME, sizeof NAME, 0, 5, 41, &length, NULL, &end, &end));
     NULLED(dnsnames_data_option(NAME, sizeof NAME, 0, 5, 41, &length, &number[0], NULL, &end));
     NULLED(dnsnames_data_option(NAME, sizeof NAME, 0, 5, 41, &length, &number[0], &end, NULL));
+    NULLED(dnsnames_append_option(buffer, sizeof buffer, NULL, 3, NAME, 1));
+    NULLED(dnsnames_append_option(NULL, 1, &octets_len, 3, NAME, 1));
+    NULLED(dnsnames_append_cookie(buffer, sizeof buffer, NULL, KEY, NAME, 0));
+    NULLED(dnsnames_append_cookie(NULL, 1, &octets_len, KEY, NAME, 0));
+    NULLED(dnsnames_append_client_subnet(buffer, sizeof buffer, NULL, 1, 8, 0, NAME, 1));
+    NULLED(dnsnames_append_client_subnet(NULL, 1, &octets_len, 1, 8, 0, NAME, 1));
+    NULLED(dnsnames_append_extended_error(buffer, sizeof buffer, NULL, 0, NAME, 1));
+    NULLED(dnsnames_append_extended_error(NULL, 1, &octets_len, 0, NAME, 1));
+    NULLED(dnsnames_cookie(KEY, 8, NULL));
+    NULLED(dnsnames_client_subnet(KEY, 4, NULL));
+    NULLED(dnsnames_extended_error(KEY, 2, NULL));
     NULLED(dnsnames_type_text(1, buffer, sizeof buffer, NULL));
     NULLED(dnsnames_type_from_text(NAME + 1, 3, NULL));
     NULLED(dnsnames_class_text(1, buffer, sizeof buffer, NULL));

@@ -25,6 +25,7 @@ struct answer {
     dnsnames_question_fields question;
     dnsnames_record_fields record;
     dnsnames_opt_fields opt;
+    dnsnames_subnet_fields subnet;
     dnsnames_field field;
     uint8_t buffer[1100];
     uint32_t rows[12 * DNSNAMES_ROW_LEN];
@@ -250,7 +251,7 @@ static void ask_to_build(uint8_t names[][255], const size_t *lens, size_t count)
     builder[0].octets = octets[0];
     builder[1].octets = octets[1];
     while (turns-- > 0) {
-        uint32_t kind = random_below(12), section = random_below(8) == 0 ? random_below(6) : 1 + random_below(3);
+        uint32_t kind = random_below(13), section = random_below(8) == 0 ? random_below(6) : 1 + random_below(3);
         size_t k = random_below((uint32_t)count), data_len = random_below(30), len = lens[k] - random_below(30) / 29;
         uint16_t type = (uint16_t)random_below(300);
         const uint8_t *data = names[0];
@@ -274,6 +275,9 @@ static void ask_to_build(uint8_t names[][255], const size_t *lens, size_t count)
                 status[side] = TURN(record, section, names[k], len, type, 1, 0x10203040u + type, data, data_len);
             else if (kind == 10)
                 status[side] = TURN(opt, type, (uint8_t)type, (uint8_t)(type / 2), type % 2, data, data_len);
+            else if (kind == 11)
+                status[side] = TURN(opt_flags, type, (uint8_t)type, (uint8_t)(type / 2), (uint16_t)(type * 511), data,
+                                    data_len);
             else
                 status[side] = side == 0 ? dnsnames_builder_truncate(b) : second_builder_truncate(b);
         }
@@ -374,6 +378,36 @@ static void ask_of_parts(const uint8_t *message, size_t len, size_t offset)
         more = second_data_option(message, len, offset, data_len, type, &passed, &code, &at, &size) == DNSNAMES_OK;
     }
     BOTH(opt, type, (uint16_t)(ttl / 7 % 1500), ttl, (uint16_t)(ttl / 3), &x->opt);
+}
+
+/* Options that are written by name after some octets, and that are read by name: of such, or of random octets. */
+static void ask_of_options(void)
+{
+    static const uint8_t texts[] = "a\xc3\xa9\xe2\x82\xac\xf0\x9f\x98\x80\xed\xa0\x80\xc0\x80\xf4\x90\xff";
+    uint8_t octets[40] = {0};
+    size_t len = random_below(41), capacity = random_below(4) == 0 ? random_below(50) : sizeof x->buffer, i;
+    size_t at = random_below(8) == 0 ? random_below(60) : random_below(4), from = random_below(sizeof texts - 1);
+    size_t text_len = random_below((uint32_t)(sizeof texts - from)), spare = len > 4 ? random_below(8) : 0;
+    uint16_t number = (uint16_t)random_below(4), code = (uint16_t)(number * 9999);
+    uint8_t source = (uint8_t)random_below(random_below(4) == 0 ? 256 : 40);
+
+    for (i = 0; i < len; i++)
+        octets[i] = (uint8_t)random_below(random_below(2) == 0 ? 256 : 3);
+    BOTH(append_option, x->buffer, capacity, (x->size[0] = at, &x->size[0]), code, octets, len);
+    BOTH(append_cookie, x->buffer, capacity, (x->size[0] = at, &x->size[0]), octets, octets, len);
+    BOTH(append_client_subnet, x->buffer, capacity, (x->size[0] = at, &x->size[0]), number, source, (uint8_t)len,
+         octets, len);
+    BOTH(append_extended_error, x->buffer, capacity, (x->size[0] = at, &x->size[0]), code, texts + from, text_len);
+    BOTH(cookie, octets, len, &x->size[0]);
+    BOTH(extended_error, octets, len, &x->number[0]);
+    if (len >= 4 && random_below(4) != 0) {
+        octets[0] = 0;
+        octets[1] = (uint8_t)random_below(3);
+        octets[2] = (uint8_t)(8 * (len - 4) - spare);
+        if (random_below(4) != 0)
+            octets[len - 1] = (uint8_t)(octets[len - 1] << spare);
+    }
+    BOTH(client_subnet, octets, len, &x->subnet);
 }
 
 /* Names in data that begin at an offset: of any type and size, and as large as the names there are. */
@@ -647,6 +681,7 @@ int main(int argc, char **argv)
         memcpy(message, octets, len);
         ask_of_message(message, len);
         ask_of_fields();
+        ask_of_options();
         ask_of_text();
         len = make_entries(octets);
         message = fence - len;

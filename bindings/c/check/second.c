@@ -874,6 +874,8 @@ static const struct {
     {51, "112h"},       /* NSEC3PARAM: RFC 5155, 4.2 */
     {52, "111x"},       /* TLSA: RFC 6698, 2.1 */
     {53, "111x"},       /* SMIMEA: RFC 8162, 2 */
+    {56, "C"},          /* NINFO */
+    {57, "211X"},       /* RKEY */
     {58, "nn"},         /* TALINK */
     {59, "211x"},       /* CDS: RFC 7344, 3.1 */
     {60, "211X"},       /* CDNSKEY: RFC 7344, 3.2 */
@@ -882,6 +884,8 @@ static const struct {
     {63, "s11x"},       /* ZONEMD: RFC 8976, 2.2 */
     {64, "-2np"},       /* SVCB: RFC 9460, 2.2 */
     {65, "-2np"},       /* HTTPS: RFC 9460, 2.2 */
+    {67, "X"},          /* HHIT: RFC 9886, 5.1 */
+    {68, "X"},          /* BRID: RFC 9886, 5.2 */
     {99, "C"},          /* SPF: RFC 4408, 3.1.1 */
     {104, "28"},        /* NID: RFC 6742, 2.1 */
     {105, "2a"},        /* L32: RFC 6742, 2.2 */
@@ -894,6 +898,9 @@ static const struct {
     {256, "22q"},       /* URI: RFC 7553, 4 */
     {257, "1gq"},       /* CAA: RFC 8659, 4.1 */
     {258, "C"},         /* AVC */
+    {261, "C"},         /* RESINFO: RFC 9606, 4 */
+    {262, "C"},         /* WALLET */
+    {263, "C"},         /* CLA */
     {32769, "211x"},    /* DLV: RFC 4431, 2 */
 };
 
@@ -1106,6 +1113,7 @@ uint32_t SECOND(opt)(uint16_t type, uint16_t class_, uint32_t ttl, uint16_t flag
     opt->size = class_ > 512 ? class_ : 512;
     opt->rcode = (uint16_t)((ttl >> 24) << 4 | (flags & 15));
     opt->version = (uint8_t)(ttl >> 16);
+    opt->flags = (uint16_t)ttl;
     opt->dnssec_ok = ttl >> 15 & 1;
     return DNSNAMES_OK;
 }
@@ -1138,6 +1146,123 @@ static void put16(uint8_t *octets, uint32_t number)
 {
     octets[0] = (uint8_t)(number >> 8);
     octets[1] = (uint8_t)number;
+}
+
+/* An option whose data are in two parts, and how many octets there are then; the first has 20 octets at most. */
+static uint32_t add_option(uint8_t *options, size_t capacity, size_t *options_len, uint16_t code, const uint8_t *first,
+                           size_t first_len, const uint8_t *second, size_t second_len)
+{
+    uint8_t *at;
+
+    if (*options_len > capacity)
+        return DNSNAMES_BAD_LENGTH;
+    if (second_len > 65535 || *options_len + 4 + first_len + second_len > (capacity > 65535 ? 65535 : capacity))
+        return DNSNAMES_NO_ROOM;
+    at = options + *options_len;
+    put16(at, code);
+    put16(at + 2, (uint32_t)(first_len + second_len));
+    if (first_len != 0)
+        memcpy(at + 4, first, first_len);
+    if (second_len != 0)
+        memcpy(at + 4 + first_len, second, second_len);
+    *options_len += 4 + first_len + second_len;
+    return DNSNAMES_OK;
+}
+
+uint32_t SECOND(append_option)(uint8_t *options, size_t capacity, size_t *options_len, uint16_t code,
+                               const uint8_t *data, size_t data_len)
+{
+    return add_option(options, capacity, options_len, code, NULL, 0, data, data_len);
+}
+
+/* RFC 7873, 4: 8 octets, or 16 to 40. */
+static uint32_t cookie_status(size_t len)
+{
+    return len < 8 ? DNSNAMES_SHORT_INPUT : len == 8 || (len >= 16 && len <= 40) ? DNSNAMES_OK : DNSNAMES_BAD_FORM;
+}
+
+uint32_t SECOND(append_cookie)(uint8_t *options, size_t capacity, size_t *options_len, const uint8_t *client,
+                               const uint8_t *server, size_t server_len)
+{
+    if (server_len > 32 || cookie_status(8 + server_len) != DNSNAMES_OK)
+        return DNSNAMES_BAD_FORM;
+    return add_option(options, capacity, options_len, 10, client, 8, server, server_len);
+}
+
+uint32_t SECOND(cookie)(const uint8_t *option, size_t option_len, size_t *server_len)
+{
+    uint32_t status = cookie_status(option_len);
+
+    (void)option;
+    if (status == DNSNAMES_OK)
+        *server_len = option_len - 8;
+    return status;
+}
+
+/* How many bits of an address are wanted, and what there is: RFC 7871, 6. */
+static uint32_t prefix_status(uint16_t family, unsigned bits, size_t address_len)
+{
+    static const unsigned most[3] = {0, 32, 128};
+
+    if (family > 2 || bits > most[family])
+        return DNSNAMES_BAD_FORM;
+    return 8 * address_len < bits ? DNSNAMES_SHORT_INPUT : DNSNAMES_OK;
+}
+
+uint32_t SECOND(append_client_subnet)(uint8_t *options, size_t capacity, size_t *options_len, uint16_t family,
+                                      uint8_t source_prefix_len, uint8_t scope_prefix_len, const uint8_t *address,
+                                      size_t address_len)
+{
+    uint32_t status = prefix_status(family, source_prefix_len, address_len), bit;
+    uint8_t data[20] = {0};
+
+    if (status != DNSNAMES_OK)
+        return status;
+    put16(data, family);
+    data[2] = source_prefix_len;
+    data[3] = scope_prefix_len;
+    for (bit = 0; bit < source_prefix_len; bit++)
+        data[4 + bit / 8] |= (uint8_t)(address[bit / 8] & 128 >> bit % 8);
+    return add_option(options, capacity, options_len, 8, data, 4 + (source_prefix_len + 7u) / 8, NULL, 0);
+}
+
+uint32_t SECOND(client_subnet)(const uint8_t *option, size_t option_len, dnsnames_subnet_fields *subnet)
+{
+    uint32_t status, bit;
+
+    if (option_len < 4)
+        return DNSNAMES_SHORT_INPUT;
+    status = prefix_status((uint16_t)number16(option), option[2], option_len - 4);
+    if (status != DNSNAMES_OK)
+        return status;
+    if (option_len - 4 > (option[2] + 7u) / 8)
+        return DNSNAMES_BAD_FORM;
+    for (bit = option[2]; bit < 8 * (option_len - 4); bit++)
+        if (option[4 + bit / 8] & 128 >> bit % 8)
+            return DNSNAMES_BAD_FORM;
+    subnet->family = (uint16_t)number16(option);
+    subnet->source_prefix_len = option[2];
+    subnet->scope_prefix_len = option[3];
+    return DNSNAMES_OK;
+}
+
+uint32_t SECOND(append_extended_error)(uint8_t *options, size_t capacity, size_t *options_len, uint16_t info_code,
+                                       const uint8_t *text, size_t text_len)
+{
+    uint8_t code[2];
+
+    if (!is_utf8(text, text_len))
+        return DNSNAMES_BAD_SYMBOL;
+    put16(code, info_code);
+    return add_option(options, capacity, options_len, 15, code, 2, text, text_len);
+}
+
+uint32_t SECOND(extended_error)(const uint8_t *option, size_t option_len, uint16_t *info_code)
+{
+    if (option_len < 2)
+        return DNSNAMES_SHORT_INPUT;
+    *info_code = (uint16_t)number16(option);
+    return DNSNAMES_OK;
 }
 
 /* Whether a state's sections and offsets are as a call left them. */
@@ -1412,15 +1537,21 @@ uint32_t SECOND(builder_rewind)(dnsnames_builder *builder, const dnsnames_builde
     return DNSNAMES_OK;
 }
 
-uint32_t SECOND(builder_opt)(dnsnames_builder *builder, uint16_t size, uint8_t rcode_ext, uint8_t version,
-                             uint32_t dnssec_ok, const uint8_t *options, size_t options_len)
+uint32_t SECOND(builder_opt_flags)(dnsnames_builder *builder, uint16_t size, uint8_t rcode_ext, uint8_t version,
+                                   uint16_t flags, const uint8_t *options, size_t options_len)
 {
     static const uint8_t root[1] = {0};
-    uint32_t ttl = (uint32_t)rcode_ext << 24 | (uint32_t)version << 16 | (dnssec_ok ? 0x8000u : 0);
+    uint32_t ttl = (uint32_t)rcode_ext << 24 | (uint32_t)version << 16 | flags;
 
     if (!is_built(builder))
         return DNSNAMES_NO_BUILDER;
     return build_record(builder, DNSNAMES_ADDITIONAL, root, 1, 41, size, ttl, options, options_len);
+}
+
+uint32_t SECOND(builder_opt)(dnsnames_builder *builder, uint16_t size, uint8_t rcode_ext, uint8_t version,
+                             uint32_t dnssec_ok, const uint8_t *options, size_t options_len)
+{
+    return SECOND(builder_opt_flags)(builder, size, rcode_ext, version, dnssec_ok ? 0x8000 : 0, options, options_len);
 }
 
 uint32_t SECOND(builder_truncate)(dnsnames_builder *builder)

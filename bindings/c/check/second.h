@@ -63,6 +63,18 @@ uint32_t SECOND(data_string)(const uint8_t *message, size_t message_len, size_t 
 uint32_t SECOND(opt)(uint16_t type, uint16_t class_, uint32_t ttl, uint16_t flags, dnsnames_opt_fields *opt);
 uint32_t SECOND(data_option)(const uint8_t *message, size_t message_len, size_t data, size_t data_len,
                              uint16_t type, size_t *passed, uint16_t *code, size_t *option, size_t *option_len);
+uint32_t SECOND(append_option)(uint8_t *options, size_t capacity, size_t *options_len, uint16_t code,
+                               const uint8_t *data, size_t data_len);
+uint32_t SECOND(append_cookie)(uint8_t *options, size_t capacity, size_t *options_len, const uint8_t *client,
+                               const uint8_t *server, size_t server_len);
+uint32_t SECOND(append_client_subnet)(uint8_t *options, size_t capacity, size_t *options_len, uint16_t family,
+                                      uint8_t source_prefix_len, uint8_t scope_prefix_len, const uint8_t *address,
+                                      size_t address_len);
+uint32_t SECOND(append_extended_error)(uint8_t *options, size_t capacity, size_t *options_len, uint16_t info_code,
+                                       const uint8_t *text, size_t text_len);
+uint32_t SECOND(cookie)(const uint8_t *option, size_t option_len, size_t *server_len);
+uint32_t SECOND(client_subnet)(const uint8_t *option, size_t option_len, dnsnames_subnet_fields *subnet);
+uint32_t SECOND(extended_error)(const uint8_t *option, size_t option_len, uint16_t *info_code);
 uint32_t SECOND(builder_start)(dnsnames_builder *builder, uint8_t *octets, size_t capacity, uint16_t id,
                                uint16_t flags);
 uint32_t SECOND(builder_question)(dnsnames_builder *builder, const uint8_t *name, size_t len, uint16_t type,
@@ -82,6 +94,8 @@ uint32_t SECOND(builder_extra)(dnsnames_builder *builder, uint32_t section, cons
 uint32_t SECOND(builder_rewind)(dnsnames_builder *builder, const dnsnames_builder_state *mark);
 uint32_t SECOND(builder_opt)(dnsnames_builder *builder, uint16_t size, uint8_t rcode_ext, uint8_t version,
                              uint32_t dnssec_ok, const uint8_t *options, size_t options_len);
+uint32_t SECOND(builder_opt_flags)(dnsnames_builder *builder, uint16_t size, uint8_t rcode_ext, uint8_t version,
+                                   uint16_t flags, const uint8_t *options, size_t options_len);
 uint32_t SECOND(builder_truncate)(dnsnames_builder *builder);
 uint32_t SECOND(builder_finish)(dnsnames_builder *builder, size_t *length);
 

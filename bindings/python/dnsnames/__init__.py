@@ -20,25 +20,26 @@ from ._library import (
 )
 from ._builder import Mark, MessageBuilder
 from ._fields import Field, FieldKind
-from ._message import Composer, EdnsOption, Header, Message, Opt, Question, Record
+from ._message import Composer, Header, Message, Opt, Question, Record
 from ._mnemonic import Class, Flags, Opcode, Rcode, Type
 from ._name import Name, Reading, read, skip
+from ._option import ClientSubnet, Cookie, EdnsOption, ExtendedError, OptionCode
 
 for _public in (
     BadEscape, BadForm, BadLabelType, BadSymbol, BadTag, BinaryLabel, BitmapLength, CompressedName, DnsError, EmptyHash,
     EmptyLabel, KeyOrder, LongLabel, LongName, NoBuilder, NoField, NoLabel, NoMnemonic, NoRoom, RelativeName,
     ShortInput, TooManyEntries, TooManyPointers, TrailingData, WindowOrder, WrongOrder,
-    Mark, MessageBuilder, Class, Flags, Opcode, Rcode, Type, Field, FieldKind, Composer, EdnsOption, Header, Message,
-    Opt, Question, Record, Name, Reading, read, skip,
+    Mark, MessageBuilder, Class, Flags, Opcode, Rcode, Type, Field, FieldKind, Composer, Header, Message,
+    Opt, Question, Record, Name, Reading, read, skip, ClientSubnet, Cookie, EdnsOption, ExtendedError, OptionCode,
 ):
     _public.__module__ = __name__
 del _public
 
 __all__ = [
-    "BadEscape", "BadForm", "BadLabelType", "BadSymbol", "BadTag", "BinaryLabel", "BitmapLength", "Class", "Composer",
-    "CompressedName", "DnsError", "EdnsOption", "EmptyHash", "EmptyLabel", "Field", "FieldKind", "Flags", "Header",
-    "KeyOrder", "LongLabel", "LongName", "Mark", "Message", "MessageBuilder", "Name", "NoBuilder",
-    "NoField", "NoLabel", "NoMnemonic", "NoRoom", "Opcode", "Opt", "Question", "Rcode", "Reading", "Record",
-    "RelativeName", "ShortInput", "TooManyEntries", "TooManyPointers", "TrailingData", "Type", "WindowOrder",
-    "WrongOrder", "read", "skip",
+    "BadEscape", "BadForm", "BadLabelType", "BadSymbol", "BadTag", "BinaryLabel", "BitmapLength", "Class",
+    "ClientSubnet", "Composer", "CompressedName", "Cookie", "DnsError", "EdnsOption", "EmptyHash", "EmptyLabel",
+    "ExtendedError", "Field", "FieldKind", "Flags", "Header", "KeyOrder", "LongLabel", "LongName", "Mark", "Message",
+    "MessageBuilder", "Name", "NoBuilder", "NoField", "NoLabel", "NoMnemonic", "NoRoom", "Opcode", "Opt", "OptionCode",
+    "Question", "Rcode", "Reading", "Record", "RelativeName", "ShortInput", "TooManyEntries", "TooManyPointers",
+    "TrailingData", "Type", "WindowOrder", "WrongOrder", "read", "skip",
 ]

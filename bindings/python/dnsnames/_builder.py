@@ -6,7 +6,9 @@ from ctypes import byref, c_size_t, c_uint16, c_uint32, create_string_buffer
 from threading import Lock
 from typing import Any, Callable, Dict, Iterable, List, Tuple, Union
 
-from ._library import BuilderFields, BuilderState, Octets, ShortInput, as_octets, as_size, library, refuse
+from ._library import (
+    EDNS_CO, EDNS_DO, BuilderFields, BuilderState, Octets, ShortInput, as_octets, as_size, library, refuse,
+)
 from ._message import Record
 from ._mnemonic import AnyClass, AnyType, Class, Type, as_number
 from ._name import AnyName, as_name
@@ -275,25 +277,28 @@ class MessageBuilder:
             refuse(status)
 
     def opt(
-        self, size: int = 1232, rcode: int = 0, version: int = 0, dnssec_ok: bool = False, options: Options = ()
+        self, size: int = 1232, rcode: int = 0, version: int = 0, dnssec_ok: bool = False, options: Options = (),
+        compact_ok: bool = False,
     ) -> None:
         """Pushes an OPT record into the additional section (RFC 6891, 6.1): how many octets of a message over UDP are
         taken, and options, each an `EdnsOption` or a pair of code and octets. Octets in place of the list are options in
         wire format. Of a response code of twelve bits the upper eight are written here; the lower four are those of
-        `flags`. A message has one at most.
+        `flags`. Records of DNSSEC are taken with `dnssec_ok` (RFC 3225), compact denials of existence with `compact_ok`
+        (RFC 9824). A message has one at most.
 
         Raises NoRoom, TooManyEntries, NoBuilder. Raises ValueError where such octets end inside an option, or an option
         has a code of more than 16 bits or more than 65,535 octets, and TypeError for what is no option.
 
         >>> query = MessageBuilder(512)
-        >>> query.opt(options=[(10, b"8 octets")])
+        >>> query.opt(options=[EdnsOption.of_cookie(b"8 octets"), (3, b"")])
         >>> for record in Message(query.finish()).additional():
         ...     print(*record.options())
-        EdnsOption(code=10, data=b'8 octets')
+        EdnsOption(code=10, data=b'8 octets') EdnsOption(code=3, data=b'')
         """
         octets = _options(options)
+        bits = (EDNS_DO if dnssec_ok else 0) | (EDNS_CO if compact_ok else 0)
         self._call(
-            library.dnsnames_builder_opt, _word(size, 16), _word(rcode, 12) >> 4, _word(version, 8), bool(dnssec_ok),
+            library.dnsnames_builder_opt_flags, _word(size, 16), _word(rcode, 12) >> 4, _word(version, 8), bits,
             octets, len(octets),
         )
 

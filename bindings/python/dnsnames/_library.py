@@ -18,6 +18,8 @@ MAX_POINTERS = 255
 MAX_TABLE = 128
 MAX_MNEMONIC = 12
 ROW_LEN = 8
+# The flags of EDNS: records of DNSSEC, and compact denials of existence, are taken.
+EDNS_DO, EDNS_CO = 0x8000, 0x4000
 _MAX_SIZE = 2 ** (8 * ctypes.sizeof(ctypes.c_size_t)) - 1
 
 
@@ -157,9 +159,9 @@ class TooManyEntries(DnsError):
 
 
 class BadForm(DnsError):
-    """An entry of the message hasn't the form of one: its name can't be read."""
+    """An entry of the message hasn't the form of one: its name can't be read. Or an EDNS option hasn't its form."""
 
-    status, text = 28, "an entry hasn't the form of one"
+    status, text = 28, "an entry or an option hasn't the form of one"
 
 
 class BadTag(DnsError):
@@ -244,7 +246,14 @@ class BuilderState(ctypes.Structure):
 
 class OptFields(ctypes.Structure):
     _fields_ = [
-        ("size", ctypes.c_uint16), ("rcode", ctypes.c_uint16), ("version", ctypes.c_uint8), ("dnssec_ok", ctypes.c_uint32),
+        ("size", ctypes.c_uint16), ("rcode", ctypes.c_uint16), ("version", ctypes.c_uint8), ("flags", ctypes.c_uint16),
+        ("dnssec_ok", ctypes.c_uint32),
+    ]
+
+
+class SubnetFields(ctypes.Structure):
+    _fields_ = [
+        ("family", ctypes.c_uint16), ("source_prefix_len", ctypes.c_uint8), ("scope_prefix_len", ctypes.c_uint8),
     ]
 
 
@@ -278,8 +287,8 @@ _ARGUMENTS = {
     "builder_record": [
         _to_builder, ctypes.c_uint32, _octets, _size, ctypes.c_uint16, ctypes.c_uint16, ctypes.c_uint32, _octets, _size,
     ],
-    "builder_opt": [
-        _to_builder, ctypes.c_uint16, ctypes.c_uint8, ctypes.c_uint8, ctypes.c_uint32, _octets, _size,
+    "builder_opt_flags": [
+        _to_builder, ctypes.c_uint16, ctypes.c_uint8, ctypes.c_uint8, ctypes.c_uint16, _octets, _size,
     ],
     "builder_rrset": [_to_builder, *_rrset],
     "builder_required": [_to_builder, *_rrset, _to_32],
@@ -303,6 +312,14 @@ _ARGUMENTS = {
     "data_address": [_octets, _size, _size, _size, ctypes.c_uint16, _buffer, _size, _to_size],
     "data_string": [_octets, _size, _size, _size, ctypes.c_uint16, _to_size, _to_size, _to_size],
     "data_option": [_octets, _size, _size, _size, ctypes.c_uint16, _to_size, _to_16, _to_size, _to_size],
+    "append_cookie": [_buffer, _size, _to_size, _octets, _octets, _size],
+    "append_client_subnet": [
+        _buffer, _size, _to_size, ctypes.c_uint16, ctypes.c_uint8, ctypes.c_uint8, _octets, _size,
+    ],
+    "append_extended_error": [_buffer, _size, _to_size, ctypes.c_uint16, _octets, _size],
+    "cookie": [_octets, _size, _to_size],
+    "client_subnet": [_octets, _size, ctypes.POINTER(SubnetFields)],
+    "extended_error": [_octets, _size, _to_16],
     "is_answer": [_octets, _size, _octets, _size, _to_32],
     "canonical_name": [_octets, _size, ctypes.c_uint16, _buffer, _size, _to_size],
     "message_text": [_octets, _size, _buffer, _size, _to_size],

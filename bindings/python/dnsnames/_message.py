@@ -10,12 +10,13 @@ from threading import Lock
 from typing import Any, Callable, Dict, Iterator, List, NamedTuple, Optional, Tuple, Union
 
 from ._library import (
-    FAULTS, MAX_LEN, MAX_TABLE, NO_END, NO_MORE, ROW_LEN, Buffer, HeaderFields, NoField, NoRoom, Octets, OptFields,
-    QuestionFields, RecordFields, Room, as_octets, as_size, library, refuse,
+    EDNS_CO, EDNS_DO, FAULTS, MAX_LEN, MAX_TABLE, NO_END, NO_MORE, ROW_LEN, Buffer, HeaderFields, NoField, NoRoom,
+    Octets, OptFields, QuestionFields, RecordFields, Room, as_octets, as_size, library, refuse,
 )
 from ._fields import Field, fields_in
 from ._mnemonic import Class, Flags, Opcode, Rcode, Type, classes, types
 from ._name import AnyName, Name, as_name, read
+from ._option import EdnsOption
 
 
 class Header(NamedTuple):
@@ -87,19 +88,13 @@ class Question(NamedTuple):
 
 class Opt(NamedTuple):
     """What an OPT record says (RFC 6891, 6.1): how many octets its sender takes over UDP, the response code of twelve
-    bits, the version of EDNS, and the bit DO."""
+    bits, the version of EDNS, the bit DO (RFC 3225), and the bit CO (RFC 9824)."""
 
     size: int
     rcode: Rcode
     version: int
     dnssec_ok: bool
-
-
-class EdnsOption(NamedTuple):
-    """An option of an OPT record (RFC 6891, 6.1.2)."""
-
-    code: int
-    data: bytes
+    compact_ok: bool = False
 
 
 class Record(NamedTuple):
@@ -192,7 +187,7 @@ class Record(NamedTuple):
         return IPv4Address(octets) if len(octets) == 4 else IPv6Address(octets)
 
     def strings(self) -> Iterator[bytes]:
-        """The character strings of a TXT, SPF or AVC record, one after another. Raises NoField for another type, and
+        """The character strings of a TXT record, or one of a type like it, one after another. Raises NoField for another type, and
         ShortInput where the data have no string, or at the string in which they end."""
         passed, offset, length = c_size_t(), c_size_t(), c_size_t()
         while True:
@@ -210,7 +205,9 @@ class Record(NamedTuple):
         status = library.dnsnames_opt(self.type, self.class_, self.ttl, flags, byref(found))
         if status:
             refuse(status, self.offset)
-        return Opt(found.size, Rcode(found.rcode), found.version, found.dnssec_ok != 0)
+        return Opt(
+            found.size, Rcode(found.rcode), found.version, found.flags & EDNS_DO != 0, found.flags & EDNS_CO != 0
+        )
 
     def options(self) -> Iterator[EdnsOption]:
         """The options of an OPT record, one after another. Raises NoField for another type, and ShortInput at the option

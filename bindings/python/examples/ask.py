@@ -9,10 +9,8 @@ as by `openssl rand -hex 8`. Status 1 where NAME is no name, TYPE no type, or CO
 
 import sys
 
-from dnsnames import Flags, Message, MessageBuilder
+from dnsnames import EdnsOption, Flags, Message, MessageBuilder
 
-# The code of the option (RFC 7873, 4), and how many octets a client's cookie has.
-COOKIE, SIZE = 10, 8
 # A program that sends it draws the identifier at random.
 ID = 0x1234
 
@@ -23,11 +21,9 @@ def query(name: str, type_: str, cookie: bytes) -> bytes:
     >>> query("a", "MX", b"8 octets").hex(" ", -2)
     '1234 0100 0001 0000 0000 0001 0161 0000 0f00 0100 0029 04d0 0000 0000 000c 000a 0008 3820 6f63 7465 7473'
     """
-    if len(cookie) != SIZE:
-        raise ValueError(f"a client's cookie has {SIZE} octets")
     builder = MessageBuilder(512, id=ID, flags=Flags.RD)
     builder.question(name, type_)
-    builder.opt(size=1232, options=[(COOKIE, cookie)])
+    builder.opt(size=1232, options=[EdnsOption.of_cookie(cookie)])
     return builder.finish()
 
 

@@ -389,9 +389,9 @@ class Data(unittest.TestCase):
 
     def test_opt(self):
         opt = of_data(41, bytes.fromhex("000a00027879fde90000"), class_=1232, ttl=0x01028000)
-        self.assertEqual(opt.opt(), (1232, 19, 2, True))
+        self.assertEqual(opt.opt(), (1232, 19, 2, True, False))
         self.assertEqual(list(opt.options()), [(10, b"xy"), (65001, b"")])
-        self.assertEqual(of_data(41, b"", class_=511, ttl=0x7fff, flags=0).opt(), (512, 0, 0, False))
+        self.assertEqual(of_data(41, b"", class_=511, ttl=0x7fff, flags=0).opt(), (512, 0, 0, False, True))
         for call in (lambda: next(of_data(41, b"\0\n\0\1").options()), lambda: next(of_data(41, b"\0").options())):
             with self.assertRaises(dnsnames.ShortInput):
                 call()

@@ -38,7 +38,7 @@ CALLS = {
     "required": lambda builder: builder.push_required("answer", NAME, Type.A, [bytes(4)]),
     "extra": lambda builder: builder.push_extra("answer", NAME, Type.A, [bytes(4)]),
     "rewind": lambda builder: builder.rewind(builder.mark()),
-    "opt": lambda builder: builder.opt(),
+    "opt_flags": lambda builder: builder.opt(),
     "truncate": lambda builder: builder.truncate(),
     "finish": lambda builder: builder.finish(),
 }

@@ -7,11 +7,9 @@
 //! TYPE is a mnemonic, as MX, and COOKIE has sixteen hexadecimal digits. A client draws a cookie at random for each
 //! server, as by `openssl rand -hex 8`.
 
-use dnsnames::{Class, EdnsOption, Fault, Header, Message, MessageBuilder, Name, Type, MAX_LEN};
+use dnsnames::{Class, EdnsOption, EdnsOptions, Fault, Header, Message, MessageBuilder, Name, Type, MAX_LEN};
 use std::error::Error;
 
-/// The code of the option (RFC 7873, 4).
-const COOKIE: u16 = 10;
 /// A program that sends it draws the identifier at random.
 const ID: u16 = 0x1234;
 
@@ -20,8 +18,9 @@ fn query<'a>(octets: &'a mut [u8], name: Name<'_>, qtype: Type, cookie: &[u8; 8]
     let mut room = [0; 12];
     let mut builder = MessageBuilder::new(octets, ID, Header::RD)?;
     builder.question(name, qtype, Class::IN)?;
-    let options = EdnsOption::write_all(&[EdnsOption { code: COOKIE, data: cookie }], &mut room)?;
-    builder.opt(1232, 0, 0, false, options)?;
+    let mut options = EdnsOptions::new(&mut room);
+    options.push_cookie(cookie, b"")?;
+    builder.opt(1232, 0, 0, false, options.as_slice())?;
     builder.finish()
 }
 

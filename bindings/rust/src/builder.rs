@@ -1,7 +1,7 @@
 //! Building messages.
 
 use crate::fault::Fault;
-use crate::message::{Message, Record, Section};
+use crate::message::{Message, Opt, Record, Section};
 use crate::mnemonic::{Class, Type};
 use crate::name::Name;
 use core::marker::PhantomData;
@@ -108,8 +108,9 @@ impl<'a> MessageBuilder<'a> {
 
     /// Pushes an OPT record into the additional section (RFC 6891, 6.1). It has the number of octets of a message over
     /// UDP that are taken, the upper eight bits of a response code of twelve, the version and the bit DO. Its options
-    /// are in wire format, as [`EdnsOption::write_all`](crate::EdnsOption::write_all) writes them. A message has one
-    /// OPT record at most. `ShortInput` where the octets end inside an option, `NoRoom`, `TooManyEntries`.
+    /// are in wire format, as [`EdnsOptions`](crate::EdnsOptions) and
+    /// [`EdnsOption::write_all`](crate::EdnsOption::write_all) write them. A message has one OPT record at most.
+    /// `ShortInput` where the octets end inside an option, `NoRoom`, `TooManyEntries`.
     ///
     /// ```
     /// use dnsnames::{EdnsOption, Fault, MessageBuilder};
@@ -123,15 +124,27 @@ impl<'a> MessageBuilder<'a> {
     /// # Ok::<(), Fault>(())
     /// ```
     pub fn opt(&mut self, size: u16, rcode_ext: u8, version: u8, dnssec_ok: bool, options: &[u8]) -> Result<(), Fault> {
+        self.opt_flags(size, rcode_ext, version, if dnssec_ok { Opt::DO } else { 0 }, options)
+    }
+
+    /// The same with these flags of EDNS in place of the bit DO alone: [`Opt::DO`], [`Opt::CO`].
+    pub fn opt_flags(
+        &mut self,
+        size: u16,
+        rcode_ext: u8,
+        version: u8,
+        flags: u16,
+        options: &[u8],
+    ) -> Result<(), Fault> {
         check_options(options)?;
         // SAFETY: as in `read`.
         let status = unsafe {
-            dnsnames_builder_opt(
+            dnsnames_builder_opt_flags(
                 &mut self.fields,
                 size,
                 rcode_ext,
                 version,
-                dnssec_ok.into(),
+                flags,
                 options.as_ptr(),
                 options.len(),
             )

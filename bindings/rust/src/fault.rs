@@ -43,7 +43,7 @@ pub enum Fault {
     WrongOrder,
     /// The section has 65,535 entries.
     TooManyEntries,
-    /// An entry of a message hasn't the form of one: its name can't be read.
+    /// An entry of a message hasn't the form of one: its name can't be read. Or an EDNS option hasn't its form.
     BadForm,
     /// A tag in data is empty, or has another octet than letters and digits (RFC 8659, 4.1).
     BadTag,
@@ -145,7 +145,7 @@ impl fmt::Display for Fault {
             Fault::NoMnemonic => "no name of a type, a class or a code",
             Fault::WrongOrder => "a later section was begun",
             Fault::TooManyEntries => "too many entries in a section",
-            Fault::BadForm => "an entry hasn\'t the form of one",
+            Fault::BadForm => "an entry or an option hasn\'t the form of one",
             Fault::BadTag => "invalid tag",
             Fault::EmptyHash => "empty hash",
             Fault::WindowOrder => "windows of a type bitmap don\'t ascend",

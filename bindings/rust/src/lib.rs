@@ -26,6 +26,7 @@ mod mnemonic;
 mod name;
 #[cfg(feature = "alloc")]
 mod name_buf;
+mod option;
 mod table;
 
 pub use builder::MessageBuilder;
@@ -38,6 +39,7 @@ pub use mnemonic::{Class, Opcode, Rcode, Type};
 pub use name::{check_relative, read, skip, Labels, Name, Read};
 #[cfg(feature = "alloc")]
 pub use name_buf::NameBuf;
+pub use option::{ClientSubnet, Cookie, EdnsOptions, ExtendedError};
 pub use table::{Row, Table, TableQuestions, TableRecords};
 
 /// The most octets of a name: a buffer of this size has room for each.

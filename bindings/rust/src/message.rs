@@ -344,7 +344,7 @@ impl<'a> Message<'a> {
         })
     }
 
-    /// The character strings of a TXT, SPF or AVC record of this message, one after another. Its fault ends them: `NoField` where
+    /// The character strings of a TXT record of this message, or one of a type like it, one after another. Its fault ends them: `NoField` where
     /// the type is another, `ShortInput` where the data have no string or end in one.
     ///
     /// ```
@@ -365,8 +365,9 @@ impl<'a> Message<'a> {
         // SAFETY: as in `read`.
         let status = unsafe { dnsnames_opt(record.rtype.0, record.class.0, record.ttl, flags, &mut found) };
         Fault::check(status, None)?;
-        let dnsnames_opt_fields { size, rcode, version, dnssec_ok } = found;
-        Ok(Opt { size, rcode: Rcode(rcode), version, dnssec_ok: dnssec_ok != 0 })
+        let dnsnames_opt_fields { size, rcode, version, flags, .. } = found;
+        let (dnssec_ok, compact_ok) = (flags & Opt::DO != 0, flags & Opt::CO != 0);
+        Ok(Opt { size, rcode: Rcode(rcode), version, dnssec_ok, compact_ok })
     }
 
     /// The options of an OPT record of this message, one after another. Its fault ends them: `NoField` where the type is
@@ -414,8 +415,17 @@ pub struct Opt {
     pub rcode: Rcode,
     /// The version of EDNS.
     pub version: u8,
-    /// The bit DO.
+    /// The bit DO: records of DNSSEC are taken (RFC 3225).
     pub dnssec_ok: bool,
+    /// The bit CO: compact denials of existence are taken (RFC 9824).
+    pub compact_ok: bool,
+}
+
+impl Opt {
+    /// The bit DO, where it stands in the sixteen flags of EDNS (RFC 6891, 6.1.4).
+    pub const DO: u16 = DNSNAMES_EDNS_FLAG_DO;
+    /// The bit CO.
+    pub const CO: u16 = DNSNAMES_EDNS_FLAG_CO;
 }
 
 /// The character strings of a record.

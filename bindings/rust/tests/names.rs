@@ -506,7 +506,10 @@ fn strings_and_options() {
     let message = Message::new(&octets);
     let record = record_of(message);
     let flags = message.header().unwrap().flags;
-    assert_eq!(message.opt(&record, flags), Ok(Opt { size: 1232, rcode: Rcode(19), version: 2, dnssec_ok: true }));
+    assert_eq!(
+        message.opt(&record, flags),
+        Ok(Opt { size: 1232, rcode: Rcode(19), version: 2, dnssec_ok: true, compact_ok: false })
+    );
     let (first, last) = (EdnsOption { code: 10, data: b"xy" }, EdnsOption { code: 65001, data: b"" });
     assert!(message.options_in_data(&record).eq([Ok(first), Ok(last)]));
     let cut = Record { data: &record.data[..9], ..record };

@@ -7,17 +7,16 @@
 import { readFileSync } from "node:fs";
 import { FLAGS, load } from "../dnsnames.mjs";
 
-// The code of the option (RFC 7873, 4). A program that sends it draws the identifier at random.
-const COOKIE = 10, ID = 0x1234;
+// A program that sends it draws the identifier at random.
+const ID = 0x1234;
 const [module, text, mnemonic, digits] = process.argv.slice(2);
 const dns = await load(readFileSync(module));
 
 // The octets of the query (RFC 1035, 4.1). A client's cookie has eight octets.
 function query(name, type, cookie) {
-    if (cookie.length !== 8) throw new RangeError("a client's cookie has 8 octets");
     const builder = dns.builder({ capacity: 512, id: ID, flags: FLAGS.RD });
     builder.question(name, type);
-    builder.opt({ size: 1232, options: [{ code: COOKIE, data: cookie }] });
+    builder.opt({ size: 1232, options: [dns.makeCookie(cookie)] });
     return builder.finish();
 }
 

@@ -1,24 +1,24 @@
 //! A zone that is made of records, and what shows that names and types aren't there.
 
-use crate::fields::name_of;
+use crate::records::question_of;
 use crate::zones::{put_rrset, zone_of};
-use conformance_labels::{Answer, is, number_up_to, split_once};
+use conformance_labels::{Answer, Fields, is};
 use domain_zone::{Owner, Zone};
-use domain_zone_denial::{Denial, denial_for};
 use domain_zone_laws::zone::Rrset;
+use domain_zone_signed::{Denial, denial_for};
 
-/// `denial APEX RECORDS QUESTIONS`
-pub fn put_denials(out: &Answer, apex: &[u8], records: &[u8], questions: &[u8]) {
-    let Some(zone) = zone_of(out, apex, records) else {
+/// `denial APEX RECORDS QUESTIONS`: what shows that names and types aren't there.
+pub fn put_denials(out: &Answer, line: &[u8]) {
+    let fields = &Fields::new(line);
+    let Some(zone) = zone_of(out, fields) else {
         return;
     };
+    let questions = fields.at(3);
     if is(questions, b"-") {
         return;
     }
     for question in questions.split(|octet| *octet == b';') {
-        let (name, rtype) = split_once(question, b'/');
-        let rtype = number_up_to(out, rtype.unwrap_or(b""), 65535) as u16;
-        if let Some(name) = name_of(out, name) {
+        if let Some((name, rtype)) = question_of(out, question) {
             put_denial(out, &zone, &name, rtype);
         }
     }

@@ -1,30 +1,50 @@
-//! The conformance table of zones: reads zones and questions to them from standard input, a zone a line, and prints
-//! one line of answers for each.
+//! The conformance table of zones: reads data, texts of zones, and zones with questions and queries to them from
+//! standard input, one a line, and prints one line of answer for each.
 //!
 //! README.md lists the lines and the answers.
 #![tactic(auto)]
 
 mod answers;
+mod data;
 mod denials;
-mod fields;
+mod entries;
+mod records;
+mod responses;
 mod sections;
+mod text;
 mod zones;
 
+use crate::data::{put_place, put_read, put_shown, put_words};
 use crate::denials::put_denials;
+use crate::entries::{put_entries, put_ttl};
+use crate::responses::put_responses;
 use crate::zones::put_zone;
-use conformance_labels::{Answer, Fail, Fields, Table, answer_table, is};
+use conformance_labels::{Answer, Fail, Table, answer_table, is, split_once};
 use std::process::ExitCode;
 
 struct ZoneTable;
 
 impl Table for ZoneTable {
     fn respond(line: &[u8], out: &Answer) {
-        let fields = &Fields::new(line);
-        fields.expect(4, out);
-        if is(fields.at(0), b"zone") {
-            put_zone(out, fields.at(1), fields.at(2), fields.at(3));
-        } else if is(fields.at(0), b"denial") {
-            put_denials(out, fields.at(1), fields.at(2), fields.at(3));
+        let (word, _) = split_once(line, b' ');
+        if is(word, b"read") {
+            put_read(out, line);
+        } else if is(word, b"show") {
+            put_shown(out, line);
+        } else if is(word, b"words") {
+            put_words(out, line);
+        } else if is(word, b"place") {
+            put_place(out, line);
+        } else if is(word, b"entries") {
+            put_entries(out, line);
+        } else if is(word, b"ttl") {
+            put_ttl(out, line);
+        } else if is(word, b"respond") {
+            put_responses(out, line);
+        } else if is(word, b"zone") {
+            put_zone(out, line);
+        } else if is(word, b"denial") {
+            put_denials(out, line);
         } else {
             out.fail(Fail::Bad);
         }

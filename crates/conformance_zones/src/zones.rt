@@ -1,64 +1,48 @@
 //! A zone that is made of records, and questions to it.
 
 use crate::answers::{put_name, put_outcome};
-use crate::fields::name_of;
+use crate::records::{builder_of, finish, insert, question_of};
 use crate::sections::{RRSIG, put_sections};
-use conformance_labels::{Answer, Fail, is, number_up_to, octets_of, split_once};
-use domain_header::Class;
-use domain_zone::{BuildError, InsertError, Owner, Zone, ZoneBuilder};
+use conformance_labels::{Answer, Fields, is};
+use domain_zone::{InsertError, Owner, Zone, ZoneBuilder};
 use domain_zone_answer::respond;
 use domain_zone_laws::ttl::record_ttl;
 use domain_zone_laws::zone::Rrset;
 
-/// `zone APEX RECORDS QUESTIONS`
-pub fn put_zone(out: &Answer, apex: &[u8], records: &[u8], questions: &[u8]) {
-    if let Some(zone) = zone_of(out, apex, records) {
-        put_answers(out, &zone, questions);
+/// `zone APEX RECORDS QUESTIONS`: what a zone has, and what it answers.
+pub fn put_zone(out: &Answer, line: &[u8]) {
+    let fields = &Fields::new(line);
+    if let Some(zone) = zone_of(out, fields) {
+        put_answers(out, &zone, fields.at(3));
     }
 }
 
-/// The zone of records, with a sign for each of them. If it is none, or memory failed, that is noted.
-pub fn zone_of(out: &Answer, apex: &[u8], records: &[u8]) -> Option<Zone> {
-    let apex = name_of(out, apex)?;
-    let mut builder = ZoneBuilder::new(out.alloc(), Class::from_int(1), apex);
+/// The zone of the fields APEX RECORDS QUESTIONS, with a sign for each record. If it is none, or memory failed, that
+/// is noted.
+pub fn zone_of(out: &Answer, fields: &Fields<'_>) -> Option<Zone> {
+    fields.expect(4, out);
+    let mut builder = builder_of(out, fields.at(1))?;
+    let records = fields.at(2);
     if !is(records, b"-") {
         for record in records.split(|octet| *octet == b';') {
             put_inserted(out, &mut builder, record);
         }
     }
-    match builder.finish(out.alloc()) {
-        Ok(zone) => Some(zone),
-        Err(BuildError::Fault(_fault)) => {
-            out.put(b" no zone");
-            None
-        }
-        Err(BuildError::Memory) => {
-            out.fail(Fail::Memory);
-            None
-        }
+    let zone = finish(out, builder);
+    if zone.is_none() {
+        out.put(b" no zone");
     }
+    zone
 }
 
-/// `OWNER/TYPE/TTL/DATA`: inserts a record of the class IN, and appends what came of it.
+/// Inserts a record, and appends what came of it.
 fn put_inserted(out: &Answer, builder: &mut ZoneBuilder, record: &[u8]) {
-    let (owner, rest) = split_once(record, b'/');
-    let (rtype, rest) = split_once(rest.unwrap_or(b""), b'/');
-    let (ttl, data) = split_once(rest.unwrap_or(b""), b'/');
-    let Some(owner) = name_of(out, owner) else {
-        return;
-    };
-    let rtype = number_up_to(out, rtype, 65535) as u16;
-    let ttl = number_up_to(out, ttl, 4294967295) as u32;
-    let data = match octets_of(data.unwrap_or(b""), out.alloc()) {
-        Ok(data) => data,
-        Err(fail) => return out.fail(fail),
-    };
-    match builder.insert(owner, rtype, Class::from_int(1), ttl, data) {
+    match insert(out, builder, record) {
         Ok(()) => out.put(b"."),
         Err(InsertError::OtherClass) => out.put(b"c"),
         Err(InsertError::OutOfZone) => out.put(b"o"),
         Err(InsertError::NotDataType) => out.put(b"t"),
-        Err(InsertError::Memory) => out.fail(Fail::Memory),
+        Err(InsertError::Memory) => {}
     }
 }
 
@@ -71,9 +55,7 @@ fn put_answers(out: &Answer, zone: &Zone, questions: &[u8]) {
         return;
     }
     for question in questions.split(|octet| *octet == b';') {
-        let (name, rtype) = split_once(question, b'/');
-        let rtype = number_up_to(out, rtype.unwrap_or(b""), 65535) as u16;
-        if let Some(name) = name_of(out, name) {
+        if let Some((name, rtype)) = question_of(out, question) {
             put_owned(out, zone, &name, rtype);
             let asked = name.for_slice();
             put_outcome(out, &zone.lookup(&asked, rtype));

@@ -1,8 +1,8 @@
 -- Messages that are built in the caller's buffer (RFC 1035, 4.1). `o` is the list of its octets, `b` the builder
 -- beside it.
-use Rattle.std.specs.Prelude.{◌≡◌, ◌⊎◌, ℕ, zero, suc, ◌<◌, Bool, true, false, List, [], ◌∷◌, ◌++◌, length, take, drop, min, Option, Some, None, IsSome, nat_eq, if◌then◌else◌}
+use Rattle.std.specs.Prelude.{◌≡◌, ◌⊎◌, ℕ, zero, suc, ◌+◌, ◌*◌, ◌<◌, Bool, true, false, List, [], ◌∷◌, ◌++◌, length, take, drop, min, Option, Some, None, IsSome, nat_eq, if◌then◌else◌}
 use Rattle.domain_header.specs.Headers.{header_octets, counts_octets}
-use Rattle.domain_label.specs.Wire.{IsAbsoluteWire}
+use Rattle.domain_label.specs.Wire.{Root, IsAbsoluteWire}
 use Rattle.domain_message.specs.Composing.{type_and_class}
 use Rattle.domain_message.specs.declared.section.Section.{Section}
 use Rattle.domain_message.specs.declared.section.Section.TheVariants.{Answer, Authority, Additional}
@@ -109,11 +109,25 @@ opt_with size rcode_ext version dnssec_ok options =
       options = options;
     }
 
+-- an OPT record before the length of its options, with sixteen flags (RFC 6891, 6.1.2 to 6.1.4)
+abbrev pub flagged_opt : ℕ → ℕ → ℕ → ℕ → RecordHead
+flagged_opt size rcode_ext version bits =
+    record {
+      owner = Root;
+      rtype = 41;
+      class = size;
+      ttl = rcode_ext * 16777216 + version * 65536 + bits;
+    }
+
+-- A record of the root with this data was pushed into the additional section, or it wasn't.
+abbrev pub GivesRootRecord : RecordHead → List ℕ → ℕ → List ℕ → Builder → List ℕ → Builder → Type 0
+GivesRootRecord head rdata status o b o' b' =
+    (IsUsable o b × GivesData Additional (0 ∷ []) head rdata status o b o' b')
+    ⊎ ((status ≡ 23) × (IsUsable o b → ⊥) × (o' ≡ o) × (b' ≡ b))
+
 -- The OPT record was pushed into the additional section (RFC 6891, 6.1), or it wasn't.
 abbrev pub GivesOpt : Opt → ℕ → List ℕ → Builder → List ℕ → Builder → Type 0
-GivesOpt opt status o b o' b' =
-    (IsUsable o b × GivesData Additional (0 ∷ []) (opt_head opt) opt.options status o b o' b')
-    ⊎ ((status ≡ 23) × (IsUsable o b → ⊥) × (o' ≡ o) × (b' ≡ b))
+GivesOpt opt status o b o' b' = GivesRootRecord (opt_head opt) opt.options status o b o' b'
 
 -- The records were taken away again, and TC was set (RFC 2181, 9); or the builder isn't usable (23), and nothing
 -- changed.

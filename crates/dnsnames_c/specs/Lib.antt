@@ -11,6 +11,7 @@ pub mod Data
 pub mod Strings
 pub mod StringLaws
 pub mod Opts
+pub mod NamedOptions
 pub mod Mnemonics
 pub mod Builders
 pub mod Rrsets

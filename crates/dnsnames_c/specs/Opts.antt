@@ -11,6 +11,10 @@ TellsOptType rtype status = ((status ≡ 0) × (rtype ≡ 41)) ⊎ ((status ≡ 
 abbrev pub extended_code : ℕ → ℕ → ℕ
 extended_code ttl flags = upper_code ttl * 16 + flags % 16
 
+-- the sixteen flags of EDNS in the TTL of an OPT record, as DO and CO (RFC 6891, 6.1.4; RFC 3225, 3; RFC 9824, 5.1)
+abbrev pub edns_flags : ℕ → ℕ
+edns_flags ttl = ttl % 65536
+
 -- the octets of the data from p on, so many, after those that were passed
 abbrev pub left_of : List ℕ → ℕ → ℕ → ℕ → List ℕ
 left_of message p len passed = drop (p + passed) (take (p + len) message)

@@ -18,6 +18,8 @@ use Rattle.domain_flat.specs.declared.error.RelativeNameErrorKind.{RelativeNameE
 use Rattle.domain_flat.specs.declared.error.RelativeNameErrorKind.TheVariants as relative
 use Rattle.domain_reading.specs.declared.fault.NameFault.{NameFault}
 use Rattle.domain_reading.specs.declared.fault.NameFault.TheVariants as reading
+use Rattle.domain_wire.specs.Refusals.{Refusal}
+use Rattle.domain_wire.specs.Refusals.Refusal.{short_input, form}
 
 -- of a name in a message
 abbrev pub fault_number : NameFault → ℕ
@@ -72,6 +74,11 @@ table_number None = 0
 table_number (Some (table.Name f)) = fault_number f
 table_number (Some table.ShortInput) = 1
 table_number (Some table.NoRoom) = 8
+
+-- of octets that aren't what they are read as, or of what can't be written as an option
+abbrev pub refusal_number : Refusal → ℕ
+refusal_number short_input = 1
+refusal_number (form text) = 28
 
 -- of why a record wasn't pushed
 abbrev pub push_number : PushFault → ℕ

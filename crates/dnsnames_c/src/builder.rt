@@ -3,7 +3,8 @@ ghost use Rattle.std.specs.Prelude.{◌≡◌, ◌≤◌, length};
 ghost use Rattle.domain_label.specs.Wire.{IsAbsoluteWire};
 ghost use Rattle.domain_buffer.specs.Builders.{headed_by_wire, headed_by, IsUsable};
 ghost use Rattle.domain_buffer.specs.Data.{found_fields, IsNamed};
-ghost use Rattle.dnsnames_c.specs.Builders.{section_of, opt_with, BeginsMessage, AsksFor, GivesData, GivesNamed, GivesInSection, GivesOpt, Cuts, Finishes};
+ghost use Rattle.dnsnames_c.specs.Builders.{section_of, opt_with, flagged_opt, BeginsMessage, AsksFor, GivesData, GivesNamed};
+ghost use Rattle.dnsnames_c.specs.Builders.{GivesInSection, GivesOpt, GivesRootRecord, Cuts, Finishes};
 ghost use Rattle.dnsnames_c.specs.Status.{push_number};
 
 use domain_buffer::builder::{
@@ -219,6 +220,32 @@ pub extern "C" fn dnsnames_builder_opt(
         numbers + 32_768
     };
     let (rtype, class) = (41, size);
+    let head = Head { rtype, class, ttl };
+    push_data(octets, builder, Section::Additional, &[0], head, options)
+}
+
+/// Pushes an OPT record as `dnsnames_builder_opt` does, with these sixteen flags of EDNS in place of the bit DO alone
+/// (RFC 6891, 6.1.4): DO is 0x8000 (RFC 3225, 3), CO is 0x4000 (RFC 9824, 5.1).
+///
+/// Returns 23, 25 and 8 as `dnsnames_builder_record` does: nothing is changed.
+#[unsafe(no_mangle)]
+pub extern "C" fn dnsnames_builder_opt_flags(
+    octets: &mut [u8],
+    builder: &mut Builder,
+    size: u16,
+    rcode_ext: u8,
+    version: u8,
+    bits: u16,
+    options: &[u8],
+) -> u32
+    ensures { GivesRootRecord (flagged_opt size rcode_ext version bits) options.now result octets.old
+        builder.old octets.new builder.new }
+{
+    if !is_usable(octets, builder) {
+        return 23;
+    }
+    let numbers = u32::from(rcode_ext) * 16_777_216 + u32::from(version) * 65_536;
+    let (rtype, class, ttl) = (41, size, numbers + u32::from(bits));
     let head = Head { rtype, class, ttl };
     push_data(octets, builder, Section::Additional, &[0], head, options)
 }

@@ -2,14 +2,14 @@
 ghost use Rattle.std.specs.Prelude.{◌≡◌, ◌≢◌};
 ghost use Rattle.domain_message.specs.OptRecords.{taken_size, edns_version, dnssec_ok_bit};
 ghost use Rattle.dnsnames_c.specs.Answers.{Sets};
-ghost use Rattle.dnsnames_c.specs.Opts.{TellsOptType, extended_code, GivesDataOption};
+ghost use Rattle.dnsnames_c.specs.Opts.{TellsOptType, extended_code, edns_flags, GivesDataOption};
 
 use domain_message::EdnsOption;
 
 /// Gives what an OPT record states by its class and its TTL (RFC 6891, 6.1.2 and 6.1.3). The first is how many octets
 /// its sender takes in a message over UDP, or 512 where it states fewer (6.2.3). The second is the response code of
 /// twelve bits, of which the flags of the message's header have the lower four. The others are the version of EDNS,
-/// and the bit DO (RFC 3225). Returns 21 if the type isn't OPT: nothing is changed.
+/// the sixteen flags of EDNS, and DO among these (RFC 3225). Returns 21 if the type isn't OPT: nothing is changed.
 #[unsafe(no_mangle)]
 pub extern "C" fn dnsnames_opt(
     rtype: u16,
@@ -19,12 +19,14 @@ pub extern "C" fn dnsnames_opt(
     size: &mut u16,
     rcode: &mut u16,
     version: &mut u8,
+    bits: &mut u16,
     dnssec_ok: &mut u32,
 ) -> u32
     ensures status { TellsOptType rtype result }
     ensures size { Sets result (taken_size class) size.old size.new }
     ensures rcode { Sets result (extended_code ttl flags) rcode.old rcode.new }
     ensures version { Sets result (edns_version ttl) version.old version.new }
+    ensures bits { Sets result (edns_flags ttl) bits.old bits.new }
     ensures dnssec_ok { Sets result (dnssec_ok_bit ttl) dnssec_ok.old dnssec_ok.new }
 {
     if rtype != 41 {
@@ -33,6 +35,7 @@ pub extern "C" fn dnsnames_opt(
     *size = if class < 512 { 512 } else { class };
     *rcode = (ttl / 0x100_0000) as u16 * 16 + flags % 16;
     *version = (ttl / 0x1_0000 % 0x100) as u8;
+    *bits = (ttl % 0x1_0000) as u16;
     *dnssec_ok = ttl / 0x8000 % 2;
     0
 }

@@ -2,7 +2,8 @@
 ghost use Rattle.std.specs.Prelude.{◌≡◌, ◌≤◌, length, not, nat_le, false, true, ◌&&◌, None, IfOk, IfErr};
 ghost use Rattle.domain_descriptor.specs.Fields.{AreData, AreNoData};
 ghost use Rattle.domain_descriptor.specs.Table.{compresses_names, known_fields};
-ghost use Rattle.domain_descriptor.specs.Rdatas.{rdata_kinds, rdata_type, rdata_class};
+ghost use Rattle.domain_descriptor.specs.Rdatas.{rdata_kinds, rdata_type, rdata_class, rdata_message, rdata_begin};
+ghost use Rattle.octseq.specs.Parsing.{message, position};
 ghost use Rattle.domain_header.specs.Values.{class_number};
 ghost use Rattle.domain_rdata.specs.Rtypes.{rtype_number};
 ghost use Rattle.domain_fields.specs.Parts.{parts_octets};
@@ -15,6 +16,7 @@ use crate::name_form::NameForm;
 use domain_descriptor::{DataFault, Rdata, compresses_names, fields_of};
 use domain_header::Class;
 use domain_rdata::{CanonicalRecordData, ComposeRecordData, Composer, RecordData, Rtype};
+use octseq::Parser;
 
 /// The data of a record in a message: exactly the fields of its type. It borrows the octets.
 ///
@@ -72,6 +74,16 @@ impl<'m> AllRecordData<'m> {
         ensures { result.now ≡ raw_octets (data_of self.now) }
     {
         self.octets
+    }
+
+    /// Returns a parser of the message that stands at the data and ends with it. A type of its own reads the data by
+    /// it: `Mx::parse_rdata(data.rtype(), &mut data.parser())`.
+    pub fn parser(&self) -> Parser<'m>
+        ensures message { message result ≡ rdata_message (data_of self.now) }
+        ensures offset { position result ≡ rdata_begin (data_of self.now) }
+    {
+        let message = self.rdata.message();
+        Parser::with_range(message, self.rdata.begin()..message.len())
     }
 
     /// Returns the class of the record.

@@ -10,7 +10,7 @@ use octseq::Parser;
 
 /// Data of the type with this number that has these fields: a name, a number, an address, or a
 /// [`Sequence`](crate::Sequence) of such.
-#[derive(Clone, Copy, Debug, Drop, PartialEq, Eq)]
+#[derive(Clone, Copy, Debug, Drop)]
 pub struct FieldsData<const TYPE: u16, F> {
     pub fields: F,
 }

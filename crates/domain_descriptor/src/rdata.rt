@@ -76,6 +76,21 @@ impl<'m> Rdata<'m> {
         self.class
     }
 
+    /// The message, up to the end of the data.
+    pub fn message(&self) -> &'m [u8]
+        ensures { result.now ≡ rdata_message self.now }
+    {
+        self.message
+    }
+
+    /// The offset in the message at which the data begins.
+    pub fn begin(&self) -> usize
+        ensures offset { result ≡ rdata_begin self.now }
+        ensures inside { result ≤ length (rdata_message self.now) }
+    {
+        self.begin
+    }
+
     /// What the fields are, in their order.
     pub fn kinds(&self) -> &'static [FieldKind]
         ensures { result.now ≡ rdata_kinds self.now }

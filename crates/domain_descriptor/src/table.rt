@@ -170,6 +170,13 @@ fn fields_of_late_type(rtype: u16) -> Option<&'static [FieldKind]>
             FieldKind::Base16,
         ], // SMIMEA
         55 => &[FieldKind::Octets], // HIP
+        56 => &[FieldKind::CharStrings], // NINFO
+        57 => &[
+            FieldKind::Number16,
+            FieldKind::Number8,
+            FieldKind::Number8,
+            FieldKind::Base64,
+        ], // RKEY
         58 => &[FieldKind::Name, FieldKind::Name], // TALINK
         59 => &[
             FieldKind::Number16,
@@ -197,6 +204,8 @@ fn fields_of_late_type(rtype: u16) -> Option<&'static [FieldKind]>
         ], // ZONEMD
         64 => &[FieldKind::Number16, FieldKind::Name, FieldKind::SvcParams], // SVCB
         65 => &[FieldKind::Number16, FieldKind::Name, FieldKind::SvcParams], // HTTPS
+        67 => &[FieldKind::Base64], // HHIT
+        68 => &[FieldKind::Base64], // BRID
         99 => &[FieldKind::CharStrings], // SPF
         104 => &[FieldKind::Number16, FieldKind::Number64], // NID
         105 => &[FieldKind::Number16, FieldKind::Ipv4], // L32
@@ -230,6 +239,9 @@ fn fields_of_late_type(rtype: u16) -> Option<&'static [FieldKind]>
         257 => &[FieldKind::Number8, FieldKind::Tag, FieldKind::QuotedText], // CAA
         258 => &[FieldKind::CharStrings], // AVC
         260 => &[FieldKind::Octets], // AMTRELAY
+        261 => &[FieldKind::CharStrings], // RESINFO
+        262 => &[FieldKind::CharStrings], // WALLET
+        263 => &[FieldKind::CharStrings], // CLA
         32769 => &[
             FieldKind::Number16,
             FieldKind::Number8,

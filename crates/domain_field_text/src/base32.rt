@@ -19,8 +19,8 @@ fn base32_digit(number: u8) -> u8
     }
 }
 
-/// The eight digits of five octets.
-fn group_of(a: u8, b: u8, c: u8, d: u8, e: u8) -> [u8; 8]
+/// Returns the eight digits of five octets in base32hex, in lower case (RFC 4648, 7).
+pub fn group_of(a: u8, b: u8, c: u8, d: u8, e: u8) -> [u8; 8]
     ensures digits { result ≡ base32hex_group a b c d e }
     ensures ascii { IsAscii result }
 {

@@ -20,11 +20,11 @@ IsLastAt m p n it =
     (front : List RecordFields) × (offset e : ℕ) × Run RecordAt m p front offset
     × RecordAt m offset (record_fields it) e × (n ≡ length front + 1)
 
--- This is the last of the records that are left.
+-- This is the last of the records that weren't read yet.
 abbrev pub IsLastRecord : RecordSection → ParsedRecord → Type 0
 IsLastRecord s it = IsLastAt (records_message s) (records_offset s) (entries_left (records_left s)) it
 
--- One of those that are left is missing, and why.
+-- One that wasn't read yet is missing, and why.
 abbrev pub LacksRecord : RecordSection → ParseError → Type 0
 LacksRecord s why =
     Lacks RecordAt NoRecord (records_message s) (records_offset s) (entries_left (records_left s)) why

@@ -9,7 +9,7 @@ use Rattle.domain_label.specs.Wire.{wire, IsAbsoluteName}
 use Rattle.domain_name.specs.Names.{name_labels}
 use Rattle.domain_message.specs.declared.tsig_fields.Tsig.{Tsig}
 
--- So many octets as the 16 bits at the offset say follow these, and the rest comes after them.
+-- The 16 bits at the offset are a length. After them come `counted`, of that many octets, and then `rest`.
 pub record CountedAt (octets : List ℕ) (offset : ℕ) (counted rest : List ℕ) : Type 0 where
   pub whole : offset + 2 + number16 octets offset ≤ length octets
   pub counted_is : counted ≡ slice_range octets (offset + 2) (offset + 2 + number16 octets offset)

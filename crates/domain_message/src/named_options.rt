@@ -18,8 +18,10 @@ use domain_wire::ParseError;
 /// Each call returns what the first option of its code says, or `None` where no option is of that code. Other options
 /// of the code are ignored, as RFC 7873, 5.2, asks for cookies: `options` returns them, too.
 ///
-/// An error is that the options end inside one before the first of the code (`ShortInput`), or that this one isn't of
-/// its form, as `from_option` of its type returns it.
+/// # Errors
+///
+/// `ShortInput` where the options end inside one before the first of the code. Where this one isn't of its form, the
+/// error that `from_option` of its type returns.
 impl<'a> OptRecord<'a> {
     /// The identifier of the name server (RFC 5001).
     #[tactic(auto, using(crate::proofs::NamedOptions::says_option, crate::proofs::NamedOptions::fails_cut))]

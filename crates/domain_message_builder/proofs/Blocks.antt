@@ -1,5 +1,5 @@
 -- Padding, and the OPT record that has it.
-use Rattle.std.proofs.Common.{◌≡◌, ℕ, ◌+◌, ◌-◌, ◌%◌, ◌<◌, ◌≤◌, ◌⊎◌, Bool, List, [], ◌++◌, length, refl, sym, ap, subst, arith, inl, inr, ◌∙◌, append_assoc, length-append, suc}
+use Rattle.std.proofs.Common.{◌≡◌, ℕ, ◌+◌, ◌-◌, ◌%◌, ◌<◌, ◌≤◌, Bool, List, [], ◌++◌, length, refl, sym, ap, subst, arith, ◌∙◌, append_assoc, length-append, suc}
 use Rattle.std.proofs.Math.Nat.{add-mod-mod, mod-add-mod, mod_self}
 use Rattle.std.proofs.lemmas.List.{length-replicate}
 use Rattle.std.proofs.lemmas.Nat.{mod_below}
@@ -13,7 +13,7 @@ use Rattle.domain_message_builder.specs.Cuts.{OnlyOptions}
 use Rattle.domain_message_builder.specs.Opt.{Opt, opt_head, opt_record_octets, option_octets, packed_opt_ttl}
 use Rattle.domain_message_builder.specs.Padding.{to_block, padded, padded_opt, least_len, padding_of, ZerosFollow, SomeFollow, IsExtended}
 use Rattle.domain_message_builder.specs.Pushes.{with_reserved, PushesRecord}
-use Rattle.domain_message_builder.specs.Refusals.{RecordRefused}
+use Rattle.domain_message_builder.specs.Refusals.{Refused, RecordRefused}
 use Rattle.domain_message_builder.specs.State.{State}
 use Rattle.domain_message_builder.specs.declared.error.PushError.{PushError}
 use Rattle.domain_message_builder.specs.declared.error.PushError.TheVariants.{Append, Long, Count, Limit, Order}
@@ -90,15 +90,15 @@ padded_whole block following o old new some is =
     let all : length new + following ≡ least + n = omega (arith, ap length is, length-append old (opt_record_octets p), record_size p, padded_size o.options n) in
     ap (λ x. x % block) all ∙ block_whole block least some
 
--- There is no room for it in the target then, or there are too many records.
-pub padded_lacks : {E : Type 0} (e : PushError E) (c : Bool) (o : Opt) (s : State) (capacity : ℕ) → length o.options ≤ 65535 → length s.octets + 11 + length o.options + s.reserved ≤ s.limit
-    → RecordRefused c Additional (opt_head o) (OnlyOptions o) s capacity e → (capacity < length s.octets + 11 + length o.options) ⊎ (additional_count s.counts ≡ 65535)
-padded_lacks (Append e) c o s capacity few fits why = inl (no_room_of c o s.octets o.udp_payload_size (packed_opt_ttl o.rcode_ext o.version o.dnssec_ok) capacity why)
-padded_lacks (Long e) c o s capacity few fits why = absurd (omega (arith, few, why.2.many, ap length why.2.allowed))
-padded_lacks Count c o s capacity few fits why = inr why
-padded_lacks Limit c o s capacity few fits why =
+-- There is no room for it in the target then, or there are too many records. It can't be for the limit.
+pub padded_lacks : {E : Type 0} (Over : Type 0) (e : PushError E) (c : Bool) (o : Opt) (s : State) (capacity : ℕ) → length o.options ≤ 65535 → length s.octets + 11 + length o.options + s.reserved ≤ s.limit
+    → RecordRefused c Additional (opt_head o) (OnlyOptions o) s capacity e → Refused (capacity < length s.octets + 11 + length o.options) ⊥ (additional_count s.counts ≡ 65535) Over ⊥ e
+padded_lacks Over (Append e) c o s capacity few fits why = no_room_of c o s.octets o.udp_payload_size (packed_opt_ttl o.rcode_ext o.version o.dnssec_ok) capacity why
+padded_lacks Over (Long e) c o s capacity few fits why = absurd (omega (arith, few, why.2.many, ap length why.2.allowed))
+padded_lacks Over Count c o s capacity few fits why = why
+padded_lacks Over Limit c o s capacity few fits why =
     let it = why.allowed in
     let head = before_length 41 o.udp_payload_size (packed_opt_ttl o.rcode_ext o.version o.dnssec_ok) in
     let len = to_be_bytes w16 (length it.rdata) in
     absurd (omega (arith, why.full, fits, it.name_allowed.read.short, ap length it.all, length-append it.named (head ++ (len ++ it.rdata)), length-append head (len ++ it.rdata), length-append len it.rdata, ap length it.data_allowed))
-padded_lacks Order c o s capacity few fits why = absurd (omega (arith, why))
+padded_lacks Over Order c o s capacity few fits why = absurd (omega (arith, why))

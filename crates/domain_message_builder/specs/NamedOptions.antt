@@ -28,8 +28,8 @@ cookies octets_of client (Some server) = client ++ octets_of server
 abbrev pub cookie_octets : Cookie → List ℕ
 cookie_octets it = cookies (λ server. server.now) it.client.now it.server
 
--- the family, how many bits of the address are encoded and for how many an answer is meant, and the encoded bits in as
--- few octets as have them, which end in zeros (RFC 7871, 6)
+-- The family, the two prefix lengths, and the address (RFC 7871, 6). Of the address these are the bits of the source
+-- prefix, in as few octets as hold them. The bits after them are zero.
 abbrev pub subnet : ℕ → ℕ → ℕ → List ℕ → List ℕ
 subnet family source scope address =
     to_be_bytes w16 family ++ (source ∷ scope ∷ cut_bits address source)

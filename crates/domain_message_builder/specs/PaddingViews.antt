@@ -1,16 +1,17 @@
 -- What contracts see of padded OPT records, and of a builder that they are pushed to. `g` to `l` are as in `Builders`,
 -- and `m` is what `Octets` provides for the octets of the options.
-use Rattle.std.specs.Prelude.{◌≡◌, ◌⊎◌, ℕ, ◌+◌, ◌<◌, List, ◌++◌, length}
+use Rattle.std.specs.Prelude.{◌≡◌, ℕ, ◌+◌, ◌<◌, List, ◌++◌, length}
 use Rattle.octseq.specs.declared.octets.Octets.{Ghosts}
-use Rattle.domain_header.specs.Headers.{additional_count}
 use Rattle.domain_message.specs.declared.section.Section.TheVariants.{Additional}
-use Rattle.domain_message_builder.specs.Builders.{state, target_room, message_len}
+use Rattle.domain_message_builder.specs.Builders.{state, target_room, message_len, IsFull}
 use Rattle.domain_message_builder.specs.Cuts.{OnlyOptions}
 use Rattle.domain_message_builder.specs.Opt.{Opt, opt_head, opt_record_octets}
 use Rattle.domain_message_builder.specs.OptViews.{opt_of}
 use Rattle.domain_message_builder.specs.Padding.{padded, padded_opt, padding_of, padded_len}
 use Rattle.domain_message_builder.specs.Pushes.{with_reserved, PushesRecord}
+use Rattle.domain_message_builder.specs.Refusals.{Refused}
 use Rattle.domain_message_builder.specs.declared.builder.MessageBuilder.{MessageBuilder}
+use Rattle.domain_message_builder.specs.declared.error.PushError.{PushError}
 use Rattle.domain_message_builder.specs.declared.opt.OptBuilder.{OptBuilder}
 use Rattle.domain_message_builder.specs.declared.padded_options.PaddedOptions.{PaddedOptions}
 
@@ -43,10 +44,15 @@ abbrev pub SurpassesPadded : {T E O : Type 0} {g : _} {h : _} {i : _} {j : _} {k
 SurpassesPadded block following opt b =
     (state b).limit < padded_len block (message_len b) (opt_of opt) following
 
--- It surpasses its limit, or the target has no room for the record, or there are 65,535 additional records.
-abbrev pub CannotPad : {T E O : Type 0} {g : _} {h : _} {i : _} {j : _} {k : _} {l : _} {m : Ghosts O}
+-- The target has no room for the padded record.
+abbrev pub HasNoRoomForPadded : {T E O : Type 0} {g : _} {h : _} {i : _} {j : _} {k : _} {l : _} {m : Ghosts O}
     → ℕ → ℕ → OptBuilder O m → MessageBuilder T E g h i j k l → Type 0
-CannotPad block following opt b =
-    SurpassesPadded block following opt b
-    ⊎ (target_room b < message_len b + 11 + length (opt_in block following opt b).options)
-    ⊎ (additional_count (state b).counts ≡ 65535)
+HasNoRoomForPadded block following opt b =
+    target_room b < message_len b + 11 + length (opt_in block following opt b).options
+
+-- Why it wasn't pushed.
+abbrev pub PaddedNotAdded : {T E O : Type 0} {g : _} {h : _} {i : _} {j : _} {k : _} {l : _} {m : Ghosts O}
+    → ℕ → ℕ → OptBuilder O m → MessageBuilder T E g h i j k l → PushError E → Type 0
+PaddedNotAdded block following opt b e =
+    Refused (HasNoRoomForPadded block following opt b) ⊥ (IsFull Additional b)
+    (SurpassesPadded block following opt b) ⊥ e

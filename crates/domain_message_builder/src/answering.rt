@@ -35,10 +35,13 @@ impl<Target: Composer> MessageBuilder<Target> {
 
     /// Begins an answer to a query: sets the header, and pushes the query's first question unchanged.
     ///
-    /// The header has the identifier, the opcode and the bits RD and CD of the query, QR, this response code, and no
-    /// other bit. Where the query has no question, or it can't be read, none is pushed, and nothing is refused. The
-    /// errors are those of `push_question`, in its order. Nothing is then changed. The target is given the name with
-    /// its case.
+    /// The header has the identifier, the opcode and the bits RD and CD of the query. QR is set, the response code is
+    /// this one, and all other bits are clear. The question's name keeps its case. Where the query has no question, or
+    /// it can't be read, none is pushed, and nothing is refused.
+    ///
+    /// # Errors
+    ///
+    /// Those of `push_question`, in its order. Nothing is then changed.
     pub fn start_answer<Octs: Octets>(
         &mut self,
         query: &Message<Octs>,

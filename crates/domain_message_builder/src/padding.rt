@@ -1,8 +1,8 @@
 //! Padding of messages (RFC 7830; RFC 8467).
-ghost use Rattle.std.specs.Prelude.{◌≡◌, ◌≤◌, ◌<◌, ◌+◌, ◌%◌, OnOk, OnErr};
-ghost use Rattle.domain_message_builder.specs.Builders.{state, message_len, target_room, target_memory, KeepsMemory};
+ghost use Rattle.std.specs.Prelude.{◌≡◌, ◌≤◌, ◌<◌, ◌+◌, ◌%◌, OnOk, OnErr, IfErr};
+ghost use Rattle.domain_message_builder.specs.Builders.{state, message_len, target_room, target_memory, KeepsMemory, IsFull};
 ghost use Rattle.domain_message_builder.specs.Padding.{to_block};
-ghost use Rattle.domain_message_builder.specs.PaddingViews.{AddsPadded, AppendsPadded, SurpassesPadded, CannotPad};
+ghost use Rattle.domain_message_builder.specs.PaddingViews.{AddsPadded, AppendsPadded, SurpassesPadded, PaddedNotAdded};
 
 use crate::builder::MessageBuilder;
 use crate::error::PushError;
@@ -21,7 +21,8 @@ fn octets_to_block(len: usize, block: u16) -> u16
 }
 
 impl<Target: Composer> MessageBuilder<Target> {
-    ghost use Rattle.domain_message_builder.specs.declared.error.PushError.TheVariants.{Limit};
+    ghost use Rattle.domain_message_builder.specs.declared.error.PushError.TheVariants.{Count, Limit};
+    ghost use Rattle.domain_message.specs.declared.section.Section.TheVariants.{Additional};
 
     /// Pushes an OPT record with an option of padding after its options, or nothing (RFC 7830, 3). With the octets
     /// that are to follow it, the length of the message is then a multiple of `block`, which is not zero. RFC 8467,
@@ -47,7 +48,9 @@ impl<Target: Composer> MessageBuilder<Target> {
         ensures unchanged { OnErr result (state self.new ≡ state self.old) }
         ensures memory_unchanged { OnErr result (target_memory self.new ≡ target_memory self.old) }
         ensures limit { SurpassesPadded block following opt.now self.old → result ≡ Err Limit }
-        ensures why { OnErr result (CannotPad block following opt.now self.old) }
+        ensures count { (SurpassesPadded block following opt.now self.old → ⊥)
+            → IsFull Additional self.old → result ≡ Err Count }
+        ensures why { IfErr result (PaddedNotAdded block following opt.now self.old) }
         ensures capacity { target_room self.old ≤ target_room self.new }
     {
         let least = self.len() + opt.record_len() + 4 + usize::from(following);

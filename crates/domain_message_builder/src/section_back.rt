@@ -1,32 +1,13 @@
 //! Messages of which records are taken away, if there are any.
-ghost use Rattle.std.specs.Prelude.{◌≡◌, ◌<◌, ◌↔◌, IsTrue};
+ghost use Rattle.std.specs.Prelude.{◌≡◌};
 ghost use Rattle.domain_message.specs.declared.section.Section.TheVariants.{Answer};
 ghost use Rattle.domain_message_builder.specs.Builders.{target_room, HasRecords, HasNoRecords, HasLater, HasNoLater};
 ghost use Rattle.domain_message_builder.specs.Builders.{CutsToSection, CutsToNext, RewindsTo, RewindsToNext};
-ghost use Rattle.domain_message_builder.specs.Pushes.{later_count, record_count};
 
 use crate::builder::MessageBuilder;
-use domain_header::HeaderCounts;
+use crate::counting::{has_later, has_records};
 use domain_message::Section;
 use domain_rdata::Composer;
-
-/// Whether there is a record.
-fn has_records(counts: HeaderCounts) -> bool
-    ensures { IsTrue result ↔ (0 < record_count counts) }
-{
-    counts.ancount() > 0 || counts.nscount() > 0 || counts.arcount() > 0
-}
-
-/// Whether a section after this one has a record.
-fn has_later(section: Section, counts: HeaderCounts) -> bool
-    ensures { IsTrue result ↔ (0 < later_count section counts) }
-{
-    match section {
-        Section::Answer => counts.nscount() > 0 || counts.arcount() > 0,
-        Section::Authority => counts.arcount() > 0,
-        Section::Additional => false,
-    }
-}
 
 /// The message without records.
 pub(crate) fn without_records<Target: Composer>(

@@ -1,16 +1,18 @@
 //! Data of SVCB and of types like it: a priority, a target name, and parameters (RFC 9460, 2.2 and 9).
-ghost use Rattle.std.specs.Prelude.{◌≡◌, ℕ, List, nat_eq, false, true, Some, refl};
+ghost use Rattle.std.specs.Prelude.{◌≡◌, ◌==◌, ℕ, List, nat_eq, false, true, Some, refl};
+ghost use Rattle.std.proofs.Common.{rules};
 ghost use Rattle.std.specs.Cmp.{on_total};
-ghost use Rattle.std.specs.Cmp.Lexicographic.{slice_cmp, nat_list_cmp_total};
+ghost use Rattle.std.specs.Cmp.Lexicographic.{pointwise, slice_cmp, nat_list_cmp_total};
+ghost use Rattle.std.specs.Cmp.Rules.{comparing};
 ghost use Rattle.std.specs.Ordering.{nat_cmp, on};
 ghost use Rattle.domain_parsed.specs.ParsedNames.{parsed_labels};
-ghost use Rattle.domain_rdata.specs.Rtypes.{rtype_number, has_lowercase_names};
+ghost use Rattle.domain_rdata.specs.Rtypes.{rtype_number};
 ghost use Rattle.domain_wire.specs.Refusals.{refusal};
 ghost use Rattle.domain_fields.specs.Data.{AllAt, NotAll, is_known};
 ghost use Rattle.domain_svcb.specs.ParamText.{service_text};
 ghost use Rattle.domain_svcb.specs.ParamsViews.{params_of};
 ghost use Rattle.domain_svcb.specs.Services.{ServiceAt, NoService, service_data};
-ghost use Rattle.domain_svcb.specs.ServiceViews.{service_fields};
+ghost use Rattle.domain_svcb.specs.ServiceViews.{service_fields, service_key};
 
 use crate::params::SvcParams;
 use domain_fields::{
@@ -36,7 +38,7 @@ pub type ServiceFields<Octs, N> = Sequence<
 >;
 
 /// Data of the type with this number that has these fields: SVCB, and each type that is made like it.
-#[derive(Clone, Copy, Debug, Drop, PartialEq, Eq)]
+#[derive(Clone, Copy, Debug, Drop)]
 pub struct ServiceData<const TYPE: u16, F> {
     pub fields: F,
 }
@@ -179,10 +181,27 @@ impl<const TYPE: u16, F: DataField> CanonicalRecordData for ServiceData<TYPE, F>
     }
 }
 
+/// Data is equal exactly where the octets of the canonical forms are equal.
+///
+/// So the target keeps its case in SVCB and HTTPS: targets that differ in case alone are different (RFC 3597, 6).
+/// Names are compared ignoring ASCII case only where `TYPE` is one of the types of RFC 4034, 6.2.
+impl<const TYPE: u16, F: OrderedLast> PartialEq for ServiceData<TYPE, F> {
+    ghost eq = { on (service_key F.uncompressed) (pointwise ◌==◌) };
+
+    ghost laws = { Prim.search (comparing, rules) };
+
+    fn eq(&self, other: &ServiceData<TYPE, F>) -> bool {
+        self.canonical_cmp(other).is_eq()
+    }
+}
+
+impl<const TYPE: u16, F: OrderedLast> Eq for ServiceData<TYPE, F> {
+    ghost laws = { Prim.search (comparing, rules) };
+}
+
 /// The order of the octets of the canonical forms from the left; a missing octet comes before any (RFC 4034, 6.3).
 impl<const TYPE: u16, F: OrderedLast> CanonicalOrd<ServiceData<TYPE, F>> for ServiceData<TYPE, F> {
-    ghost value_order = { on (λ it. F.uncompressed (service_fields it) (has_lowercase_names TYPE))
-        (slice_cmp nat_cmp) };
+    ghost value_order = { on (service_key F.uncompressed) (slice_cmp nat_cmp) };
 
     fn canonical_cmp(&self, other: &ServiceData<TYPE, F>) -> Ordering {
         let lowercase = Rtype::from_int(TYPE).has_lowercase_names();
@@ -191,9 +210,7 @@ impl<const TYPE: u16, F: OrderedLast> CanonicalOrd<ServiceData<TYPE, F>> for Ser
 }
 
 impl<const TYPE: u16, F: OrderedLast> TotalCanonicalOrd for ServiceData<TYPE, F> {
-    ghost total = { on_total
-        (λ it. F.uncompressed (service_fields it) (has_lowercase_names TYPE))
-        nat_list_cmp_total };
+    ghost total = { on_total (service_key F.uncompressed) nat_list_cmp_total };
 }
 
 /// The octets of the fields, one after the other.

@@ -26,7 +26,7 @@ use Rattle.domain_message_builder.specs.declared.error.PushError.{PushError}
 use Rattle.domain_zone.specs.Headers.{HasAuthority, response_code}
 use Rattle.domain_zone_answer.specs.Sections.{Sections}
 use Rattle.domain_zone_signed.specs.Signing.{AddsDnssecIf, FollowsWith}
-use Rattle.domain_zone_chain.specs.ChainSections.{IsFollowedBy, Follows}
+use Rattle.domain_zone_signed.specs.ChainSections.{IsFollowedBy, Follows}
 use Rattle.domain_zone_laws.specs.Answers.{Outcome}
 use Rattle.domain_zone_laws.specs.Zone.{Zone, RRset}
 use Rattle.domain_message_builder.proofs.Composing.{composed_after}

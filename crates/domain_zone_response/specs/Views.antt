@@ -13,7 +13,7 @@ use Rattle.domain_zone_response.specs.Included.{IsRequired, Parts, Puts}
 use Rattle.domain_zone_response.specs.Pushing.{Gains, Fills, CannotAdd, DoesNotFit, StopsAt, Stops}
 use Rattle.domain_zone_response.specs.declared.glue.Glue.{Glue}
 use Rattle.domain_zone_response.specs.declared.rrset.Head.{Head}
-use Rattle.domain_zone_signed.specs.Views.{response_views}
+use Rattle.domain_zone_signed.specs.SignedViews.{response_views}
 
 -- the record with this head and these data
 abbrev pub headed_record : Head → List ℕ → PushedRecord

@@ -4,8 +4,8 @@ ghost use Rattle.domain_name.specs.Names.{name_labels};
 ghost use Rattle.domain_zone.specs.Outcomes.{outcome_of};
 ghost use Rattle.domain_zone_response.specs.Included.{cut_of, IsRequired};
 ghost use Rattle.domain_zone_response.specs.Views.{TakesPart, IsGlue};
-ghost use Rattle.domain_zone_signed.specs.Views.{response_view, response_views};
-ghost use Rattle.domain_zone_signed.specs.Views.{signed_last, signed_sections};
+ghost use Rattle.domain_zone_signed.specs.SignedViews.{response_view, response_views};
+ghost use Rattle.domain_zone_signed.specs.SignedViews.{signed_last, signed_sections};
 
 use domain_name::Name;
 use domain_zone::Answer;

@@ -28,8 +28,7 @@ use domain_rdata::Composer;
 use domain_traits::ToName;
 use domain_zone::Zone;
 use domain_zone_answer::respond;
-use domain_zone_chain::{follow, names_of, respond_along};
-use domain_zone_signed::{Questions, add_dnssec};
+use domain_zone_signed::{Questions, add_dnssec, follow, names_of, respond_along};
 use std::alloc::Global;
 
 /// Pushes the OPT record, if there is one, and finishes the message.

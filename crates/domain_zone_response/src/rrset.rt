@@ -8,7 +8,7 @@ ghost use Rattle.domain_zone_response.specs.Pushing.{record_of, records_of};
 ghost use Rattle.domain_zone_response.specs.Views.{headed_record, GainsRecords, GainsSome};
 ghost use Rattle.domain_zone_response.specs.Views.{RecordCannotBeAdded, RrsetDoesNotFit};
 ghost use Rattle.domain_zone_signed.specs.Signing.{covers};
-ghost use Rattle.domain_zone_signed.specs.Views.{signatures_type, signatures_view};
+ghost use Rattle.domain_zone_signed.specs.SignedViews.{signatures_type, signatures_view};
 
 use domain_header::{Class, Ttl};
 use domain_list::composing::put_name;

@@ -6,7 +6,7 @@ ghost use Rattle.domain_zone_response.specs.Included.{cut_of};
 ghost use Rattle.domain_zone_response.specs.Pushing.{all_records};
 ghost use Rattle.domain_zone_response.specs.Views.{FillsRecords};
 ghost use Rattle.domain_zone_response.specs.Views.{StopsPushing, PutsSections};
-ghost use Rattle.domain_zone_signed.specs.Views.{response_views, signed_last, signed_sections};
+ghost use Rattle.domain_zone_signed.specs.SignedViews.{response_views, signed_last, signed_sections};
 
 use crate::glue::glue_of;
 use crate::sets::push_most;

@@ -5,15 +5,14 @@ ghost use Rattle.domain_message_builder.specs.Builders.{target_room};
 ghost use Rattle.domain_zone_response.specs.Pushing.{records_of, all_records};
 ghost use Rattle.domain_zone_response.specs.Views.{GainsSome, GainsRecords, FillsRecords};
 ghost use Rattle.domain_zone_response.specs.Views.{RrsetDoesNotFit, StopsAfter};
-ghost use Rattle.domain_zone_signed.specs.Views.{response_views, response_view};
+ghost use Rattle.domain_zone_signed.specs.SignedViews.{response_views, response_view};
 
 use crate::rrset::{push_cname, push_rrset, push_signatures};
 use domain_header::Class;
 use domain_message::Section;
 use domain_message_builder::MessageBuilder;
 use domain_rdata::Composer;
-use domain_zone_chain::AnswerRrset;
-use domain_zone_signed::ResponseRrset;
+use domain_zone_signed::{AnswerRrset, ResponseRrset};
 
 /// Pushes the records of an RRset, up to the first that is refused. Returns whether all were pushed.
 fn push_set<Target: Composer>(

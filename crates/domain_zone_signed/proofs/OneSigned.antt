@@ -2,18 +2,18 @@
 use Rattle.std.proofs.Common.{◌≡◌, ℕ, List, [], ◌∷◌, ◌++◌, map, sym, ap, subst, ◌∙◌, inl, inr}
 use Rattle.std.specs.Prelude.{Bool, true, false, fold}
 use Rattle.domain_zone_answer.specs.Sections.{Sections}
-use Rattle.domain_zone_chain.specs.Chains.{Step, step, step_name}
-use Rattle.domain_zone_chain.specs.ChainSections.{IsFollowedBy, Follows, with_rrset}
-use Rattle.domain_zone_chain.specs.Laws.{HasOneChain, HasOneChainResponse}
-use Rattle.domain_zone_denial.specs.Denial.{DeniesFor}
-use Rattle.domain_zone_denial.specs.Laws.{HasOneDenial}
+use Rattle.domain_zone_signed.specs.AliasChains.{Step, step, step_name}
+use Rattle.domain_zone_signed.specs.ChainSections.{IsFollowedBy, Follows, with_rrset}
+use Rattle.domain_zone_signed.specs.ChainLaws.{HasOneChain, HasOneChainResponse}
+use Rattle.domain_zone_signed.specs.Denial.{DeniesFor}
+use Rattle.domain_zone_signed.specs.DenialLaws.{HasOneDenial}
 use Rattle.domain_zone_laws.proofs.Nodes.{at_same}
 use Rattle.domain_zone_laws.specs.Answers.{Outcome}
 use Rattle.domain_zone_laws.specs.Laws.{HasOneOutcome}
 use Rattle.domain_zone_laws.specs.Zone.{Zone, RRset, RRSIG, IsZone, source_of_synthesis}
-use Rattle.domain_zone_signed.specs.Laws.{HasOneSignedResponse, IsPlainWithout}
+use Rattle.domain_zone_signed.specs.SignedLaws.{HasOneSignedResponse, IsPlainWithout}
 use Rattle.domain_zone_signed.specs.Signing.{signatures, AreSignaturesOf, AreSigned, AddsDenial, AddDenials, AddsDnssecIf}
-use Rattle.domain_zone_signed.proofs.Searching.{HasOneSet, one_source}
+use Rattle.domain_zone_signed.proofs.FindingSignatures.{HasOneSet, one_source}
 
 pub one_set : (z : Zone) → IsZone z → HasOneSet z
 one_set z w n r s (inl a) (inl b) = w.apart n RRSIG r s a.1 b.1

@@ -4,7 +4,7 @@ use Rattle.std.specs.Prelude.{Bool, true, false, fold}
 use Rattle.domain_zone_answer.specs.Sections.{Sections}
 use Rattle.domain_zone_laws.specs.Zone.{Zone, RRset}
 use Rattle.domain_zone_signed.specs.Signing.{AreSignaturesOf, AreSigned, AddsDenial, AddDenials, AddsDnssecIf}
-use Rattle.domain_zone_signed.specs.Views.{AddsAllSigned, AreDenialsIf}
+use Rattle.domain_zone_signed.specs.SignedViews.{AddsAllSigned, AreDenialsIf}
 
 signed_both : (z : Zone) (rs ss xs ys : List RRset) → AreSigned z rs xs → AreSigned z ss ys → AreSigned z (rs ++ ss) (xs ++ ys)
 signed_both z [] ss xs ys h k = subst (λ l. AreSigned z ss (l ++ ys)) (sym h) k

@@ -1,3 +1,14 @@
+pub mod AliasChains
+pub mod ChainSections
+pub mod ChainLaws
+pub mod AliasRows
+pub mod Targets
+pub mod ChainViews
+pub mod Denial
+pub mod NsecChain
+pub mod Cuts
+pub mod DenialLaws
+pub mod DenialViews
 pub mod Signing
-pub mod Views
-pub mod Laws
+pub mod SignedLaws
+pub mod SignedViews

@@ -3,8 +3,8 @@
 use Rattle.std.specs.Prelude.{◌≡◌, ◌≢◌, ℕ, ◌==◌, ◌⊎◌, Bool, true, false, List, [], ◌∷◌, ◌++◌, fold}
 use Rattle.std.specs.List.{filter}
 use Rattle.domain_zone_answer.specs.Sections.{Sections}
-use Rattle.domain_zone_chain.specs.ChainSections.{IsFollowedBy, Follows, with_rrset}
-use Rattle.domain_zone_denial.specs.Denial.{DeniesFor}
+use Rattle.domain_zone_signed.specs.ChainSections.{IsFollowedBy, Follows, with_rrset}
+use Rattle.domain_zone_signed.specs.Denial.{DeniesFor}
 use Rattle.domain_zone_laws.specs.Answers.{Outcome, Answers}
 use Rattle.domain_zone_laws.specs.Zone.{Zone, RRset, RRSIG, IsAt, Exists, IsClosestEncloser, source_of_synthesis, covered_type}
 

@@ -3,17 +3,18 @@ ghost use Rattle.std.specs.Prelude.{◌≡◌, fold, IfOk, OnOk};
 ghost use Rattle.domain_name.specs.Names.{name_labels};
 ghost use Rattle.domain_zone.specs.Kept.{zone_view};
 ghost use Rattle.domain_zone_answer.specs.Sets.{set_list};
-ghost use Rattle.domain_zone_chain.specs.ChainSections.{with_rrset};
-ghost use Rattle.domain_zone_chain.specs.Views.{answer_views};
+ghost use Rattle.domain_zone_signed.specs.ChainSections.{with_rrset};
+ghost use Rattle.domain_zone_signed.specs.ChainViews.{answer_views};
 ghost use Rattle.domain_zone_signed.specs.Signing.{AddsDenial};
-ghost use Rattle.domain_zone_signed.specs.Views.{question_names, AreDenialsIf};
+ghost use Rattle.domain_zone_signed.specs.SignedViews.{question_names, AreDenialsIf};
 
+use crate::answer::AnswerRrset;
+use crate::chain::push_new;
+use crate::denial::denial_for;
 use crate::questions::Questions;
 use domain_name::Name;
 use domain_zone::{Owner, Zone};
 use domain_zone_answer::SectionRrset;
-use domain_zone_chain::{AnswerRrset, push_new};
-use domain_zone_denial::denial_for;
 use domain_zone_laws::zone::Rrset;
 use std::alloc::{AllocError, Global};
 

@@ -3,11 +3,13 @@ ghost use Rattle.std.specs.Prelude.{◌≡◌, ◌∷◌, [], IfOk, OnOk};
 ghost use Rattle.domain_zone.specs.Kept.{zone_view};
 ghost use Rattle.domain_zone_answer.specs.AddressViews.{addresses_left};
 ghost use Rattle.domain_zone_answer.specs.Views.{section_list};
-ghost use Rattle.domain_zone_chain.specs.Views.{answer_views, answer_view, last_of, chain_sections};
+ghost use Rattle.domain_zone_signed.specs.ChainViews.{answer_views, answer_view, last_of, chain_sections};
 ghost use Rattle.domain_zone_signed.specs.Signing.{AddsDnssecIf};
-ghost use Rattle.domain_zone_signed.specs.Views.{response_views, signed_last, signed_sections};
-ghost use Rattle.domain_zone_signed.specs.Views.{question_names, AddsAllSigned};
+ghost use Rattle.domain_zone_signed.specs.SignedViews.{response_views, signed_last, signed_sections};
+ghost use Rattle.domain_zone_signed.specs.SignedViews.{question_names, AddsAllSigned};
 
+use crate::answer::AnswerRrset;
+use crate::chain::ChainResponse;
 use crate::denials::denials_of;
 use crate::questions::Questions;
 use crate::rrset::ResponseRrset;
@@ -15,7 +17,6 @@ use crate::signatures::signatures_of;
 use domain_header::Rcode;
 use domain_zone::{Answer, Zone};
 use domain_zone_answer::{AddressIter, SectionRrset};
-use domain_zone_chain::{AnswerRrset, ChainResponse};
 use std::alloc::{AllocError, Global};
 
 /// What a response has that follows a chain, with records of DNSSEC where these are asked for.

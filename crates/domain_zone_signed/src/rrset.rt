@@ -1,8 +1,8 @@
 //! An RRset in a section of a response.
 
+use crate::answer::AnswerRrset;
 use crate::signatures::Signatures;
 use domain_name::Name;
-use domain_zone_chain::AnswerRrset;
 
 /// An RRset in a section of a response, or the signatures of the one before it.
 #[derive(Clone, Copy)]
@@ -16,7 +16,7 @@ pub enum ResponseRrset<'a> {
 impl<'a> ResponseRrset<'a> {
     ghost use Rattle.std.specs.Prelude.{◌≡◌};
     ghost use Rattle.domain_name.specs.Names.{name_labels};
-    ghost use Rattle.domain_zone_signed.specs.Views.{response_view};
+    ghost use Rattle.domain_zone_signed.specs.SignedViews.{response_view};
 
     /// Returns the owner of the records.
     pub fn owner(&self) -> Name<&'a [u8]>

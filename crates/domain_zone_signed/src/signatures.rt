@@ -5,7 +5,7 @@ ghost use Rattle.domain_zone.specs.Kept.{zone_view};
 ghost use Rattle.domain_zone.specs.Records.{set_view};
 ghost use Rattle.domain_zone_laws.specs.Zone.{RRset};
 ghost use Rattle.domain_zone_signed.specs.Signing.{IsSignatureSet, IsCovered, AreSignaturesOf};
-ghost use Rattle.domain_zone_signed.specs.Views.{signature_list};
+ghost use Rattle.domain_zone_signed.specs.SignedViews.{signature_list};
 
 use domain_name::Name;
 use domain_zone::{Owner, Zone, source_of_synthesis};
@@ -26,8 +26,8 @@ pub struct Signatures<'a> {
 
 impl<'a> Signatures<'a> {
     ghost use Rattle.std.specs.Prelude.{map};
-    ghost use Rattle.domain_zone_signed.specs.Views.{signatures_type, signatures_view};
-    ghost use Rattle.domain_zone_signed.specs.Views.{all_signatures};
+    ghost use Rattle.domain_zone_signed.specs.SignedViews.{signatures_type, signatures_view};
+    ghost use Rattle.domain_zone_signed.specs.SignedViews.{all_signatures};
 
     /// Returns the owner of the records.
     pub fn owner(&self) -> Name<&'a [u8]>

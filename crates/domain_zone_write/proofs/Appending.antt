@@ -4,7 +4,7 @@ use Rattle.std.specs.Fmt.{decimal}
 use Rattle.std.specs.List.{AllZip, flat_map}
 use Rattle.std.proofs.lemmas.List.{drop_all, get_or-map, length-map}
 use Rattle.domain_header.specs.Tables.{class_text}
-use Rattle.domain_label.specs.Wire.{Root}
+use Rattle.domain_label.specs.Wire.{Root, wire}
 use Rattle.domain_rdata_text.specs.Laws.{AreOctets}
 use Rattle.domain_rdata_text.specs.Names.{name_text}
 use Rattle.domain_rdata_text.specs.Rtypes.{type_text}
@@ -18,7 +18,7 @@ use Rattle.domain_zone_write.proofs.Starting.{HasWord, has_word}
 use Rattle.domain_zone_write.proofs.Members.{inserted_by}
 use Rattle.domain_zone_write.specs.Texts.{AppendsLine, AppendsLines, HoldsData, IsLineOf, record_of, set_records, zone_records}
 
--- ---- the elements of a list that are left
+-- ---- the rest of a list
 pub drop_here : {X Y : Type 0} (f : X → Y) (xs : List X) (i : ℕ) (x : X) → i < length xs → x ≡ get_or xs i x → drop i (map f xs) ≡ f x ∷ drop (i + 1) (map f xs)
 drop_here {X} {Y} f xs i x lt is =
     let ys = map f xs in
@@ -47,17 +47,17 @@ abbrev before_data : List ℕ → List ℕ → List ℕ → List ℕ → List �
 before_data a b c d = ((a ++ (32 ∷ (b ++ 32 ∷ (c ++ 32 ∷ [])))) ++ d) ++ 32 ∷ []
 
 -- The line of the parts that were appended.
-pub line_made : (class : ℕ) (r : Inserted) (ls : List (List ℕ)) (vs : List Val) (one two three four five six : List ℕ) → ls ++ Root ≡ r.owner → AreOctets r.octets
+pub line_made : (class : ℕ) (r : Inserted) (ls : List (List ℕ)) (vs : List Val) (one two three four five six : List ℕ) → ls ++ Root ≡ r.owner → AreOctets r.octets → AreOctets (wire r.owner)
     → HoldsData r.rtype class r.octets vs → one ≡ name_text ls → two ≡ one ++ (32 ∷ (decimal r.ttl ++ 32 ∷ (class_text class ++ 32 ∷ []))) → three ≡ two ++ type_text r.rtype
     → four ≡ three ++ 32 ∷ [] → five ≡ four ++ data_text vs → six ≡ five ++ 10 ∷ [] → (w : Written) × IsLineOf class r w × (six ≡ record_line w)
-line_made class r ls vs one two three four five six owner low holds a b c d e f =
+line_made class r ls vs one two three four five six owner low owner_low holds a b c d e f =
     let middle = 32 ∷ (decimal r.ttl ++ 32 ∷ (class_text class ++ 32 ∷ [])) in
     let second : two ≡ name_text ls ++ middle = b ∙ ap (λ (x : List ℕ). x ++ middle) a in
     let third : three ≡ (name_text ls ++ middle) ++ type_text r.rtype = c ∙ ap (λ (x : List ℕ). x ++ type_text r.rtype) second in
     let fourth : four ≡ before_data (name_text ls) (decimal r.ttl) (class_text class) (type_text r.rtype) = d ∙ ap (λ (x : List ℕ). x ++ 32 ∷ []) third in
     let fifth : five ≡ before_data (name_text ls) (decimal r.ttl) (class_text class) (type_text r.rtype) ++ data_text vs = e ∙ ap (λ (x : List ℕ). x ++ data_text vs) fourth in (
       record { owner = ls; ttl = r.ttl; class = class; rtype = r.rtype; values = vs },
-      record { owner_is = owner; ttl_is = refl; class_is = refl; rtype_is = refl; holds = holds },
+      record { owner_is = owner; ttl_is = refl; class_is = refl; rtype_is = refl; holds = holds; octets = low; owner_octets = owner_low },
       f ∙ (ap (λ (x : List ℕ). x ++ 10 ∷ []) fifth
           ∙ words_joined (name_text ls) (decimal r.ttl) (class_text class) (type_text r.rtype) (data_words vs) (has_word r.rtype class r.octets vs low holds)),
     )

@@ -8,3 +8,7 @@ pub mod Same
 pub mod Alike
 pub mod Reading
 pub mod Loading
+pub mod Stating
+pub mod Mapping
+pub mod Spelling
+pub mod Loaded

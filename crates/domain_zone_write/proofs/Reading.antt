@@ -45,7 +45,7 @@ pub is_record : (class : ℕ) (r : Inserted) (w : Written) → IsReadable class 
 is_record class r w ok name line =
     let it = held class r w ok line line.holds in
     let whole : IsAbsoluteName (w.owner ++ Root) = subst IsAbsoluteName (sym line.owner_is) name in
-    let low : AreOctets (wire (w.owner ++ Root)) = subst (λ (x : List (List ℕ)). AreOctets (wire x)) (sym line.owner_is) ok.owner_octets in
+    let low : AreOctets (wire (w.owner ++ Root)) = subst (λ (x : List (List ℕ)). AreOctets (wire x)) (sym line.owner_is) line.owner_octets in
     let owner = name_val (wire (w.owner ++ Root)) 0 w.owner low (name_there (w.owner ++ Root) whole) in
     record {
       is_owner = owner.0;
@@ -54,7 +54,7 @@ is_record class r w ok name line =
       small_class = omega (arith, line.class_is, ok.small_class);
       small_rtype = omega (arith, line.rtype_is, ok.small_rtype);
       message = r.octets;
-      octets = ok.octets;
+      octets = line.octets;
       begin = 0;
       end = it.end;
       inside = omega arith;

@@ -85,7 +85,7 @@ pub record Alike (s t : RRset) : Type 0 where
   pub rtype : s.rtype ≡ t.rtype
   pub rdata : s.rdata ≡ t.rdata
 
-only_signature : (b : Bool) (x y : SignatureTtl) → Contains (cond b (x ∷ []) []) y → x ≡ y
+pub only_signature : (b : Bool) (x y : SignatureTtl) → Contains (cond b (x ∷ []) []) y → x ≡ y
 only_signature true x y h = ⊎_elim (λ (e : x ≡ y). e) (λ (n : Contains [] y). absurd (none_in y n)) (in_cases x y [] h)
 only_signature false x y h = absurd (none_in y h)
 

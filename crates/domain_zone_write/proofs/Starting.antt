@@ -1,8 +1,11 @@
 -- The text of data has a word.
 use Rattle.std.proofs.Common.{◌≡◌, ◌∙◌, ℕ, Bool, true, false, not, ◌&&◌, nat_eq, cond, suc, ◌<◌, get_or, List, [], ◌∷◌, ◌++◌, Option, Some, None, unwrap_or, refl, sym, ap, inl, inr}
 use Rattle.std.specs.List.{flat_map}
-use Rattle.std.proofs.lemmas.Bool.{false≢true, true≢false}
+use Rattle.std.proofs.lemmas.Bool.{and_parts, eqb-true, false≢true, true≢false}
+use Rattle.domain_descriptor.specs.Forms.{form}
 use Rattle.domain_descriptor.specs.Table.{fields_of_late_type, fields_of_middle_type, fields_of_type, is_of_internet, known_fields}
+use Rattle.domain_descriptor.specs.declared.form.FieldForm.{FieldForm}
+use Rattle.domain_descriptor.specs.declared.form.FieldForm.TheVariants as forms
 use Rattle.domain_descriptor.specs.declared.kind.FieldKind.{FieldKind}
 use Rattle.domain_descriptor.specs.declared.kind.FieldKind.TheVariants.{Octets}
 use Rattle.domain_rdata_text.proofs.Holding.{values_held}
@@ -55,22 +58,62 @@ abbrev starts : List FieldKind → Bool
 starts [] = false
 starts (k ∷ ks) = not (may_be_absent (text_form k))
 
-record IsFirm (o : Option (List FieldKind)) : Type 0 where
-  is : starts (unwrap_or o (Octets ∷ [])) ≡ true
+-- ---- a field that goes on to the end of the data is the last one, and only NSEC3 has a hash
+abbrev pub lasts : FieldForm → Bool
+lasts (forms.Fixed n) = false
+lasts forms.Name = false
+lasts forms.Counted = false
+lasts forms.OptionalCounted = true
+lasts forms.SomeCounted = false
+lasts forms.Strings = true
+lasts forms.Tag = false
+lasts forms.LongCounted = false
+lasts forms.Blocks = true
+lasts forms.OptionalBlocks = true
+lasts forms.Params = true
+lasts forms.Rest = true
 
-row : (b : Bool) (ks : List FieldKind) (o : Option (List FieldKind)) → starts ks ≡ true → IsFirm o → IsFirm (cond b (Some ks) o)
-row true ks o h k = record { is = h }
+abbrev pub is_hash : FieldForm → Bool
+is_hash (forms.Fixed n) = false
+is_hash forms.Name = false
+is_hash forms.Counted = false
+is_hash forms.OptionalCounted = false
+is_hash forms.SomeCounted = true
+is_hash forms.Strings = false
+is_hash forms.Tag = false
+is_hash forms.LongCounted = false
+is_hash forms.Blocks = false
+is_hash forms.OptionalBlocks = false
+is_hash forms.Params = false
+is_hash forms.Rest = false
+
+abbrev pub ends_last : List FieldKind → Bool
+ends_last [] = true
+ends_last (k ∷ ks) = cond (is_hash (form k)) false (cond (lasts (form k)) (is_nil ks) (ends_last ks))
+
+record IsFirm (t : ℕ) (o : Option (List FieldKind)) : Type 0 where
+  is : starts (unwrap_or o (Octets ∷ [])) ≡ true
+  end : (t ≡ 50 → ⊥) → ends_last (unwrap_or o (Octets ∷ [])) ≡ true
+
+row : {t : ℕ} (b : Bool) (ks : List FieldKind) (o : Option (List FieldKind)) → starts ks && ends_last ks ≡ true → IsFirm t o → IsFirm t (cond b (Some ks) o)
+row true ks o h k = let it = and_parts (starts ks) (ends_last ks) h in record { is = it.0; end = λ other. it.1 }
 row false ks o h k = k
 
-none_firm : IsFirm None
-none_firm = record { is = refl }
+nsec3_row : {t : ℕ} (b : Bool) (ks : List FieldKind) (o : Option (List FieldKind)) → starts ks ≡ true → (b ≡ true → t ≡ 50) → IsFirm t o → IsFirm t (cond b (Some ks) o)
+nsec3_row true ks o h is k = record { is = h; end = λ other. absurd (other (is refl)) }
+nsec3_row false ks o h is k = k
 
-late_firm : (t : ℕ) → IsFirm (fields_of_late_type t)
+none_firm : {t : ℕ} → IsFirm t None
+none_firm = record { is = refl; end = λ other. refl }
+
+late_firm : (t : ℕ) → IsFirm t (fields_of_late_type t)
 late_firm t =
     row (nat_eq t 51) _ _ refl (
     row (nat_eq t 52) _ _ refl (
     row (nat_eq t 53) _ _ refl (
     row (nat_eq t 55) _ _ refl (
+    row (nat_eq t 56) _ _ refl (
+    row (nat_eq t 57) _ _ refl (
     row (nat_eq t 58) _ _ refl (
     row (nat_eq t 59) _ _ refl (
     row (nat_eq t 60) _ _ refl (
@@ -79,6 +122,8 @@ late_firm t =
     row (nat_eq t 63) _ _ refl (
     row (nat_eq t 64) _ _ refl (
     row (nat_eq t 65) _ _ refl (
+    row (nat_eq t 67) _ _ refl (
+    row (nat_eq t 68) _ _ refl (
     row (nat_eq t 99) _ _ refl (
     row (nat_eq t 104) _ _ refl (
     row (nat_eq t 105) _ _ refl (
@@ -92,10 +137,13 @@ late_firm t =
     row (nat_eq t 257) _ _ refl (
     row (nat_eq t 258) _ _ refl (
     row (nat_eq t 260) _ _ refl (
+    row (nat_eq t 261) _ _ refl (
+    row (nat_eq t 262) _ _ refl (
+    row (nat_eq t 263) _ _ refl (
     row (nat_eq t 32769) _ _ refl (
-    none_firm))))))))))))))))))))))))))
+    none_firm)))))))))))))))))))))))))))))))))
 
-middle_firm : (t : ℕ) → IsFirm (fields_of_middle_type t)
+middle_firm : (t : ℕ) → IsFirm t (fields_of_middle_type t)
 middle_firm t =
     row (nat_eq t 25) _ _ refl (
     row (nat_eq t 26) _ _ refl (
@@ -116,10 +164,10 @@ middle_firm t =
     row (nat_eq t 47) _ _ refl (
     row (nat_eq t 48) _ _ refl (
     row (nat_eq t 49) _ _ refl (
-    row (nat_eq t 50) _ _ refl (
+    nsec3_row (nat_eq t 50) _ _ refl (λ e. eqb-true t 50 e) (
     (late_firm t)))))))))))))))))))))
 
-type_firm : (t : ℕ) → IsFirm (fields_of_type t)
+type_firm : (t : ℕ) → IsFirm t (fields_of_type t)
 type_firm t =
     row (nat_eq t 1) _ _ refl (
     row (nat_eq t 2) _ _ refl (
@@ -144,12 +192,15 @@ type_firm t =
     row (nat_eq t 24) _ _ refl (
     (middle_firm t))))))))))))))))))))))
 
-in_class : (b : Bool) (t : ℕ) → IsFirm (cond b None (fields_of_type t))
+in_class : (b : Bool) (t : ℕ) → IsFirm t (cond b None (fields_of_type t))
 in_class true t = none_firm
 in_class false t = type_firm t
 
 known_start : (t c : ℕ) → starts (known_fields t c) ≡ true
 known_start t c = (in_class (not (nat_eq c 1) && is_of_internet t) t).is
+
+pub known_end : (t c : ℕ) → (t ≡ 50 → ⊥) → ends_last (known_fields t c) ≡ true
+known_end t c other = (in_class (not (nat_eq c 1) && is_of_internet t) t).end other
 
 -- ---- the words of data
 not_absent : (b : Bool) → not b ≡ true → b ≡ false

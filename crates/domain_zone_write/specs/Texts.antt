@@ -4,7 +4,8 @@ use Rattle.std.specs.List.{AllZip, flat_map}
 use Rattle.domain_descriptor.specs.Fields.{AreNoData}
 use Rattle.domain_descriptor.specs.Table.{known_fields}
 use Rattle.domain_descriptor.specs.declared.fault.DataFault.{DataFault}
-use Rattle.domain_label.specs.Wire.{Root}
+use Rattle.domain_label.specs.Wire.{Root, wire}
+use Rattle.domain_rdata_text.specs.Laws.{AreOctets}
 use Rattle.domain_rdata_text.specs.Outcome.{AppendedTo}
 use Rattle.domain_rdata_text.specs.Values.{Val, ValuesAt}
 use Rattle.domain_rdata_text.specs.Values.Val.{generic}
@@ -30,13 +31,15 @@ HoldsData t c d vs =
     ((e : ℕ) × ValuesAt (known_fields t c) d 0 vs e)
     ⊎ (((why : DataFault) × AreNoData (known_fields t c) d 0 why) × (vs ≡ generic d ∷ []))
 
--- The written record is this record of this class.
+-- The written record is this record of this class, whose octets are in their range.
 pub record IsLineOf (class : ℕ) (r : Inserted) (w : Written) : Type 0 where
   pub owner_is : w.owner ++ Root ≡ r.owner
   pub ttl_is : w.ttl ≡ r.ttl
   pub class_is : w.class ≡ class
   pub rtype_is : w.rtype ≡ r.rtype
   pub holds : HoldsData r.rtype class r.octets w.values
+  pub octets : AreOctets r.octets
+  pub owner_octets : AreOctets (wire r.owner)
 
 -- The text is the lines of the records of a zone of this class, in its order.
 abbrev pub IsZoneText : ℕ → Zone → List ℕ → Type 0

@@ -5,7 +5,7 @@ pub mod laws;
 pub mod record;
 pub mod writing;
 
-pub use laws::written_zone_law;
+pub use laws::{loaded_zone_law, reloaded_zone_law, written_zone_law};
 pub use record::{Front, append_name, append_record};
 pub use writing::write_zone;
 

@@ -3,8 +3,9 @@ ghost use Rattle.std.specs.Prelude.{◌≡◌, ℕ, List, [], ◌∷◌, ◌++�
 ghost use Rattle.std.specs.Fmt.{decimal};
 ghost use Rattle.domain_header.specs.Tables.{class_text};
 ghost use Rattle.domain_header.specs.Values.{class_number};
-ghost use Rattle.domain_label.specs.Wire.{Root};
+ghost use Rattle.domain_label.specs.Wire.{Root, wire};
 ghost use Rattle.domain_name.specs.Names.{name_labels};
+ghost use Rattle.domain_rdata_text.specs.Laws.{AreOctets};
 ghost use Rattle.domain_rdata_text.specs.Names.{name_text};
 ghost use Rattle.domain_rdata_text.specs.Outcome.{AppendedTo};
 ghost use Rattle.domain_rdata_text.specs.Rtypes.{type_text};
@@ -35,6 +36,11 @@ pub struct Front<'a> {
     pub rtype: u16,
 }
 
+/// The call does nothing: its contract is that octets of the program are below 256.
+fn are_octets(octets: &[u8])
+    ensures { AreOctets octets.now }
+{}
+
 /// Appends an absolute name with its final dot: as data of a CNAME is written.
 ///
 /// # Errors
@@ -44,8 +50,11 @@ pub fn append_name(alloc: Global, name: &Name<&[u8]>, text: &mut Vec<u8>) -> Res
     ensures ok { OnOk result ((ls : List (List ℕ)) × (ls ++ Root ≡ name_labels name.now)
         × AppendedTo text.old.items (name_text ls) text.new.items) }
     ensures unchanged { OnErr result (text.new.items ≡ text.old.items) }
+    ensures octets { AreOctets (wire (name_labels name.now)) }
 {
-    let Ok(rdata) = Rdata::parse(5, 1, name.as_slice(), 0) else {
+    let octets = name.as_slice();
+    are_octets(octets);
+    let Ok(rdata) = Rdata::parse(5, 1, octets, 0) else {
         unreachable!();
     };
     show(alloc, &rdata, text)

@@ -2,7 +2,10 @@
 ghost use Rattle.std.specs.Prelude.{◌≡◌, ◌<◌, length};
 
 use domain_any_rdata::AllRecordData;
+use domain_data::Mx;
 use domain_message::{Message, Record};
+use domain_parsed::ParsedName;
+use domain_rdata::{ParseRecordData, RecordData};
 use domain_wire::ParseError;
 use std::io::Write;
 
@@ -24,4 +27,11 @@ pub fn show_answers<W: Write>(octets: &[u8], output: &mut W) -> Result<bool, Par
         }
     }
     Ok(true)
+}
+
+/// Returns the preference and the mail exchange of a record, or `None` where the record isn't of type MX.
+pub fn exchange_of<'m>(
+    data: &AllRecordData<'m>,
+) -> Result<Option<Mx<ParsedName<&'m [u8]>>>, ParseError> {
+    Mx::parse_rdata(data.rtype(), &mut data.parser())
 }

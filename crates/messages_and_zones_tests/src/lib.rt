@@ -16,6 +16,8 @@ mod engine_lines;
 #[cfg(test)]
 mod engines;
 #[cfg(test)]
+mod equal_data;
+#[cfg(test)]
 mod memory;
 #[cfg(test)]
 mod messages;

@@ -84,7 +84,7 @@ pub const DNSNAMES_TOO_MANY_ENTRIES: dnsnames_status = 25;
 pub const DNSNAMES_NO_SECTION: dnsnames_status = 26;
 /// All fields, strings or options of the data were given: no fault, but the end.
 pub const DNSNAMES_NO_MORE: dnsnames_status = 27;
-/// Text of a message: an entry hasn't the form of one.
+/// Text of a message: an entry hasn't the form of one. EDNS: an option hasn't the form of its standard.
 pub const DNSNAMES_BAD_FORM: dnsnames_status = 28;
 /// Text of a message: it wasn't made. This doesn't come.
 pub const DNSNAMES_NO_TEXT: dnsnames_status = 29;
@@ -122,6 +122,20 @@ pub const DNSNAMES_FLAG_RD: u16 = 0x0100;
 pub const DNSNAMES_FLAG_RA: u16 = 0x0080;
 pub const DNSNAMES_FLAG_AD: u16 = 0x0020;
 pub const DNSNAMES_FLAG_CD: u16 = 0x0010;
+
+// The flags of EDNS (RFC 6891, 6.1.4): DO (RFC 3225, 3) and CO (RFC 9824, 5.1).
+pub const DNSNAMES_EDNS_FLAG_DO: u16 = 0x8000;
+pub const DNSNAMES_EDNS_FLAG_CO: u16 = 0x4000;
+
+// The codes of some EDNS options, and the sizes of cookies.
+pub const DNSNAMES_OPTION_NSID: u16 = 3;
+pub const DNSNAMES_OPTION_CLIENT_SUBNET: u16 = 8;
+pub const DNSNAMES_OPTION_COOKIE: u16 = 10;
+pub const DNSNAMES_OPTION_TCP_KEEPALIVE: u16 = 11;
+pub const DNSNAMES_OPTION_PADDING: u16 = 12;
+pub const DNSNAMES_OPTION_EXTENDED_ERROR: u16 = 15;
+pub const DNSNAMES_CLIENT_COOKIE_LEN: usize = 8;
+pub const DNSNAMES_MAX_SERVER_COOKIE: usize = 32;
 
 // What the fields of data are.
 pub const DNSNAMES_FIELD_NUMBER8: u32 = 1;
@@ -270,14 +284,24 @@ pub struct dnsnames_field {
     pub number: u64,
 }
 
-/// What an OPT record says (RFC 6891, 6.1.2 and 6.1.3).
+/// What an OPT record says (RFC 6891, 6.1.2 to 6.1.4).
 #[derive(Clone, Copy, Debug, Default, PartialEq, Eq)]
 #[repr(C)]
 pub struct dnsnames_opt_fields {
     pub size: u16,
     pub rcode: u16,
     pub version: u8,
+    pub flags: u16,
     pub dnssec_ok: u32,
+}
+
+/// What the subnet of a client says (RFC 7871, 6).
+#[derive(Clone, Copy, Debug, Default, PartialEq, Eq)]
+#[repr(C)]
+pub struct dnsnames_subnet_fields {
+    pub family: u16,
+    pub source_prefix_len: u8,
+    pub scope_prefix_len: u8,
 }
 
 /// What a message that is built has so far. `id` and `flags` may be changed at any time, and `limit` to any size from
@@ -535,6 +559,54 @@ extern "C" {
         option: *mut usize,
         option_len: *mut usize,
     ) -> dnsnames_status;
+    /// Writes an EDNS option after the first `*options_len` octets.
+    pub fn dnsnames_append_option(
+        options: *mut u8,
+        capacity: usize,
+        options_len: *mut usize,
+        code: u16,
+        data: *const u8,
+        data_len: usize,
+    ) -> dnsnames_status;
+    /// The same of the cookies of a client and of a server. The client's has 8 octets.
+    pub fn dnsnames_append_cookie(
+        options: *mut u8,
+        capacity: usize,
+        options_len: *mut usize,
+        client: *const u8,
+        server: *const u8,
+        server_len: usize,
+    ) -> dnsnames_status;
+    /// The same of the subnet of a client.
+    pub fn dnsnames_append_client_subnet(
+        options: *mut u8,
+        capacity: usize,
+        options_len: *mut usize,
+        family: u16,
+        source_prefix_len: u8,
+        scope_prefix_len: u8,
+        address: *const u8,
+        address_len: usize,
+    ) -> dnsnames_status;
+    /// The same of an extended error.
+    pub fn dnsnames_append_extended_error(
+        options: *mut u8,
+        capacity: usize,
+        options_len: *mut usize,
+        info_code: u16,
+        text: *const u8,
+        text_len: usize,
+    ) -> dnsnames_status;
+    /// Reads the data of an option as cookies.
+    pub fn dnsnames_cookie(option: *const u8, option_len: usize, server_len: *mut usize) -> dnsnames_status;
+    /// Reads the data of an option as the subnet of a client.
+    pub fn dnsnames_client_subnet(
+        option: *const u8,
+        option_len: usize,
+        subnet: *mut dnsnames_subnet_fields,
+    ) -> dnsnames_status;
+    /// Reads the data of an option as an extended error.
+    pub fn dnsnames_extended_error(option: *const u8, option_len: usize, info_code: *mut u16) -> dnsnames_status;
     /// The text of a message.
     pub fn dnsnames_message_text(
         message: *const u8,
@@ -636,6 +708,16 @@ extern "C" {
         rcode_ext: u8,
         version: u8,
         dnssec_ok: u32,
+        options: *const u8,
+        options_len: usize,
+    ) -> dnsnames_status;
+    /// Pushes an OPT record with these flags of EDNS.
+    pub fn dnsnames_builder_opt_flags(
+        builder: *mut dnsnames_builder,
+        size: u16,
+        rcode_ext: u8,
+        version: u8,
+        flags: u16,
         options: *const u8,
         options_len: usize,
     ) -> dnsnames_status;

@@ -4,7 +4,7 @@ use Rattle.domain_zone_response.specs.Included.{cut_of}
 use Rattle.domain_zone_response.specs.Views.{TakesPart}
 use Rattle.domain_zone_response.proofs.Parting.{begins, takes_part, ends}
 use Rattle.domain_zone_response.proofs.glue.glue_of.Goals as goal
-use Rattle.domain_zone_signed.specs.Views.{response_view, response_views, signed_last, signed_sections}
+use Rattle.domain_zone_signed.specs.SignedViews.{response_view, response_views, signed_last, signed_sections}
 
 pub loop-set-init : goal.loop-set-init
 loop-set-init c =

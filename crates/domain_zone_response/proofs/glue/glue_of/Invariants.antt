@@ -2,7 +2,7 @@ use Rattle.std.proofs.Common.{drop}
 use Rattle.domain_zone_response.specs.Included.{cut_of}
 use Rattle.domain_zone_response.proofs.Parting.{GoesOn}
 use Rattle.domain_zone_response.proofs.glue.glue_of.Given as goal
-use Rattle.domain_zone_signed.specs.Views.{response_views, signed_last, signed_sections}
+use Rattle.domain_zone_signed.specs.SignedViews.{response_views, signed_last, signed_sections}
 
 abbrev pub invariant-loop-set : goal.invariant-loop-set
 invariant-loop-set l =

@@ -5,10 +5,10 @@ use Rattle.domain_name.specs.Names.{name_labels}
 use Rattle.domain_parsed.specs.ParsedNames.{parsed_labels}
 use Rattle.domain_rdata.specs.Rtypes.{rtype_number}
 use Rattle.domain_zone.specs.Kept.{zone_view}
-use Rattle.domain_zone_chain.proofs.Calling.{may_follow, has_sections, has_chain}
+use Rattle.domain_zone_signed.proofs.Calling.{may_follow, has_sections, has_chain}
 use Rattle.domain_zone_response.proofs.Responding.{follows_with, answers_question}
 use Rattle.domain_zone_response.proofs.respond.answer_from.Goals as goal
-use Rattle.domain_zone_signed.specs.Views.{signed_sections}
+use Rattle.domain_zone_signed.specs.SignedViews.{signed_sections}
 
 pub follow-requires : goal.follow-requires
 follow-requires g c = may_follow _ _ _ _ _ c.outcome.ensures c.respond-first.ensures.outcome

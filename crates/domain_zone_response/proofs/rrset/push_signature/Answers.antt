@@ -5,7 +5,7 @@ use Rattle.domain_zone_response.specs.Pushing.{record_of, Gains, CannotAdd}
 use Rattle.domain_zone_response.proofs.Covering.{keeps_one, keeps_none, passes, fails}
 use Rattle.domain_zone_response.proofs.Growing.{gains_none}
 use Rattle.domain_zone_signed.specs.Signing.{covers}
-use Rattle.domain_zone_signed.specs.Views.{signatures_type, signatures_view}
+use Rattle.domain_zone_signed.specs.SignedViews.{signatures_type, signatures_view}
 use Rattle.domain_zone_response.proofs.rrset.push_signature.Goals as goal
 
 pub returns-then-covered_type-covered-clause-pushed : goal.returns-then-covered_type-covered-clause-pushed

@@ -6,7 +6,7 @@ use Rattle.domain_zone_response.specs.Views.{GainsRecords}
 use Rattle.domain_zone_response.proofs.Covering.{passes_more, passes_all, passes_part}
 use Rattle.domain_zone_response.proofs.rrset.push_signatures.Goals as goal
 use Rattle.domain_zone_signed.specs.Signing.{covers}
-use Rattle.domain_zone_signed.specs.Views.{signatures_type, signatures_view}
+use Rattle.domain_zone_signed.specs.SignedViews.{signatures_type, signatures_view}
 
 pub returns-then-not-pushed-clause-why : goal.returns-then-not-pushed-clause-why
 returns-then-not-pushed-clause-why g c refused =

@@ -5,7 +5,7 @@ use Rattle.domain_zone_response.specs.Pushing.{Gains}
 use Rattle.domain_zone_response.proofs.Covering.{passing}
 use Rattle.domain_zone_response.proofs.rrset.push_signatures.Given as goal
 use Rattle.domain_zone_signed.specs.Signing.{covers}
-use Rattle.domain_zone_signed.specs.Views.{signatures_type, signatures_view}
+use Rattle.domain_zone_signed.specs.SignedViews.{signatures_type, signatures_view}
 
 abbrev pub invariant-loop-item : goal.invariant-loop-item
 invariant-loop-item g l = record {

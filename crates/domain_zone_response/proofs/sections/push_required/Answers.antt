@@ -2,7 +2,7 @@ use Rattle.std.proofs.Common.{arith}
 use Rattle.std.proofs.lemmas.List.{length-map}
 use Rattle.domain_zone_response.proofs.Growing.{fills_whole, stops_part}
 use Rattle.domain_zone_response.proofs.sections.push_required.Goals as goal
-use Rattle.domain_zone_signed.specs.Views.{response_view, response_views}
+use Rattle.domain_zone_signed.specs.SignedViews.{response_view, response_views}
 
 pub returns-then-count-all-clause-stops : goal.returns-then-count-all-clause-stops
 returns-then-count-all-clause-stops g c part =

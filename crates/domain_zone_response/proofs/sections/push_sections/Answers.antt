@@ -6,7 +6,7 @@ use Rattle.domain_message_builder.specs.Builders.{state, target_room}
 use Rattle.domain_zone_response.specs.Pushing.{all_records, Fills, Stops}
 use Rattle.domain_zone_response.proofs.Filling.{left_answer, left_authority, left_glue, all_required}
 use Rattle.domain_zone_response.proofs.sections.push_sections.Goals as goal
-use Rattle.domain_zone_signed.specs.Views.{response_view, response_views, signed_sections}
+use Rattle.domain_zone_signed.specs.SignedViews.{response_view, response_views, signed_sections}
 
 pub returns-then-not-push_required-clause-puts : goal.returns-then-not-push_required-clause-puts
 returns-then-not-push_required-clause-puts g c =

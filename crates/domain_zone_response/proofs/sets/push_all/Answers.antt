@@ -1,7 +1,7 @@
 use Rattle.std.proofs.Common.{refl}
 use Rattle.domain_zone_response.proofs.Growing.{gains_both, sets_stop}
 use Rattle.domain_zone_response.proofs.sets.push_all.Goals as goal
-use Rattle.domain_zone_signed.specs.Views.{response_view}
+use Rattle.domain_zone_signed.specs.SignedViews.{response_view}
 
 pub returns-then-not-pushed-clause-some : goal.returns-then-not-pushed-clause-some
 returns-then-not-pushed-clause-some g c =

@@ -4,7 +4,7 @@ use Rattle.domain_message_builder.specs.Builders.{target_room}
 use Rattle.domain_zone_response.specs.Pushing.{all_records}
 use Rattle.domain_zone_response.specs.Views.{GainsRecords}
 use Rattle.domain_zone_response.proofs.sets.push_all.Given as goal
-use Rattle.domain_zone_signed.specs.Views.{response_views}
+use Rattle.domain_zone_signed.specs.SignedViews.{response_views}
 
 abbrev pub invariant-loop-index : goal.invariant-loop-index
 invariant-loop-index g l = record {

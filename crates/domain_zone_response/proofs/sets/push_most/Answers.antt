@@ -2,7 +2,7 @@ use Rattle.std.proofs.Common.{sym, ◌∙◌, arith}
 use Rattle.std.proofs.lemmas.List.{length-take-le}
 use Rattle.domain_zone_response.proofs.Growing.{fills_first, fills_after, fills_none, stops_list}
 use Rattle.domain_zone_response.proofs.sets.push_most.Goals as goal
-use Rattle.domain_zone_signed.specs.Views.{response_view}
+use Rattle.domain_zone_signed.specs.SignedViews.{response_view}
 
 pub returns-then-whole-count-clause-fills : goal.returns-then-whole-count-clause-fills
 returns-then-whole-count-clause-fills g c =

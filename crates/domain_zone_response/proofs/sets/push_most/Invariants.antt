@@ -3,7 +3,7 @@ use Rattle.domain_header.specs.Values.{class_number}
 use Rattle.domain_message_builder.specs.Builders.{target_room}
 use Rattle.domain_zone_response.specs.Views.{FillsRecords, StopsAfter}
 use Rattle.domain_zone_response.proofs.sets.push_most.Given as goal
-use Rattle.domain_zone_signed.specs.Views.{response_views}
+use Rattle.domain_zone_signed.specs.SignedViews.{response_views}
 
 abbrev pub invariant-fewer : goal.invariant-fewer
 invariant-fewer g l = record {

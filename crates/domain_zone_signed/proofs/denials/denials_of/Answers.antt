@@ -2,7 +2,7 @@ use Rattle.std.proofs.Common.{◌++◌, ◌∷◌, [], map, take, refl, sym, ap,
 use Rattle.std.proofs.lemmas.List.{map_more}
 use Rattle.domain_name.specs.Names.{name_labels}
 use Rattle.domain_zone.specs.Kept.{zone_view}
-use Rattle.domain_zone_chain.specs.Views.{answer_views}
+use Rattle.domain_zone_signed.specs.ChainViews.{answer_views}
 use Rattle.domain_zone_signed.specs.Signing.{AddsDenial, AddDenials}
 use Rattle.domain_zone_signed.proofs.Signing.{denials_more, no_denials, some_denials}
 use Rattle.domain_zone_signed.proofs.denials.denials_of.Goals as goal

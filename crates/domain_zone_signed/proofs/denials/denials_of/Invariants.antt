@@ -1,7 +1,7 @@
 use Rattle.std.proofs.Common.{◌∷◌, [], map, take}
 use Rattle.domain_name.specs.Names.{name_labels}
 use Rattle.domain_zone.specs.Kept.{zone_view}
-use Rattle.domain_zone_chain.specs.Views.{answer_views}
+use Rattle.domain_zone_signed.specs.ChainViews.{answer_views}
 use Rattle.domain_zone_signed.specs.Signing.{AddDenials}
 use Rattle.domain_zone_signed.proofs.denials.denials_of.Given as goal
 

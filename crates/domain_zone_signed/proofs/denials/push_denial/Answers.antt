@@ -2,9 +2,9 @@ use Rattle.std.proofs.Common.{List, ◌∙◌, ap}
 use Rattle.std.specs.Prelude.{fold}
 use Rattle.domain_zone.specs.Outcomes.{outcome_of}
 use Rattle.domain_zone_answer.specs.Sets.{set_list}
-use Rattle.domain_zone_chain.specs.ChainSections.{with_rrset}
-use Rattle.domain_zone_chain.specs.Views.{answer_views}
-use Rattle.domain_zone_denial.specs.Views.{denial_list}
+use Rattle.domain_zone_signed.specs.ChainSections.{with_rrset}
+use Rattle.domain_zone_signed.specs.ChainViews.{answer_views}
+use Rattle.domain_zone_signed.specs.DenialViews.{denial_list}
 use Rattle.domain_zone_laws.specs.Zone.{RRset}
 use Rattle.domain_zone_signed.proofs.Signing.{fold_both}
 use Rattle.domain_zone_signed.proofs.denials.push_denial.Goals as goal

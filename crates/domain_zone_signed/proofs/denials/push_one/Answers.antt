@@ -1,8 +1,8 @@
 use Rattle.std.proofs.Common.{ap, sym, ◌∙◌}
 use Rattle.std.specs.Prelude.{fold}
 use Rattle.domain_zone_answer.specs.Sets.{set_list}
-use Rattle.domain_zone_chain.specs.ChainSections.{with_rrset}
-use Rattle.domain_zone_chain.specs.Views.{answer_views}
+use Rattle.domain_zone_signed.specs.ChainSections.{with_rrset}
+use Rattle.domain_zone_signed.specs.ChainViews.{answer_views}
 use Rattle.domain_zone_signed.proofs.denials.push_one.Goals as goal
 
 pub returns : goal.returns

@@ -2,7 +2,7 @@ use Rattle.std.proofs.Common.{◌++◌, ◌∷◌, [], refl, sym, ap, subst, ◌
 use Rattle.domain_zone.specs.Kept.{zone_view}
 use Rattle.domain_zone_answer.specs.AddressViews.{addresses_left}
 use Rattle.domain_zone_answer.specs.Views.{section_view}
-use Rattle.domain_zone_signed.specs.Views.{response_views, AddsAllSigned}
+use Rattle.domain_zone_signed.specs.SignedViews.{response_views, AddsAllSigned}
 use Rattle.domain_zone_signed.proofs.Signing.{adds_none, adds_both}
 use Rattle.domain_zone_signed.proofs.response.push_addresses.Goals as goal
 

@@ -1,8 +1,8 @@
 use Rattle.std.proofs.Common.{◌++◌, ◌∷◌, [], take, sym, ap, subst, ◌∙◌, take_all}
 use Rattle.std.proofs.lemmas.List.{map_more}
 use Rattle.domain_zone.specs.Kept.{zone_view}
-use Rattle.domain_zone_chain.specs.Views.{answer_view, answer_views}
-use Rattle.domain_zone_signed.specs.Views.{response_views, AddsAllSigned}
+use Rattle.domain_zone_signed.specs.ChainViews.{answer_view, answer_views}
+use Rattle.domain_zone_signed.specs.SignedViews.{response_views, AddsAllSigned}
 use Rattle.domain_zone_signed.proofs.Signing.{adds_none, adds_more}
 use Rattle.domain_zone_signed.proofs.response.push_all.Goals as goal
 

@@ -1,7 +1,7 @@
 use Rattle.std.proofs.Common.{take}
 use Rattle.domain_zone.specs.Kept.{zone_view}
-use Rattle.domain_zone_chain.specs.Views.{answer_views}
-use Rattle.domain_zone_signed.specs.Views.{response_views, AddsAllSigned}
+use Rattle.domain_zone_signed.specs.ChainViews.{answer_views}
+use Rattle.domain_zone_signed.specs.SignedViews.{response_views, AddsAllSigned}
 use Rattle.domain_zone_signed.proofs.response.push_all.Given as goal
 
 -- those so far

@@ -1,7 +1,7 @@
 use Rattle.std.proofs.Common.{◌++◌, ◌∷◌, [], sym, ap, ◌∙◌, append_assoc}
 use Rattle.std.proofs.lemmas.List.{map-append}
-use Rattle.domain_zone_chain.specs.Views.{answer_view}
-use Rattle.domain_zone_signed.specs.Views.{signatures_view, response_view, response_views}
+use Rattle.domain_zone_signed.specs.ChainViews.{answer_view}
+use Rattle.domain_zone_signed.specs.SignedViews.{signatures_view, response_view, response_views}
 use Rattle.domain_zone_signed.proofs.Signing.{adds_plain, adds_signed}
 use Rattle.domain_zone_signed.proofs.response.push_signed.Goals as goal
 

@@ -1,5 +1,5 @@
 use Rattle.std.proofs.Common.{drop}
-use Rattle.domain_zone_signed.proofs.Covering.{SameCovered}
+use Rattle.domain_zone_signed.proofs.CoveringTypes.{SameCovered}
 use Rattle.domain_zone_signed.proofs.signatures.is_covered.Given as goal
 
 -- the rest decides

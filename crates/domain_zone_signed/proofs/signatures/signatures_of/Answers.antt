@@ -5,7 +5,7 @@ use Rattle.domain_zone.specs.Records.{set_view}
 use Rattle.domain_zone_laws.specs.Zone.{IsZone}
 use Rattle.domain_zone_signed.specs.Signing.{IsCovered}
 use Rattle.domain_zone_signed.proofs.OneSigned.{one_set}
-use Rattle.domain_zone_signed.proofs.Searching.{none_signs, not_signed, none_covers, some_signs}
+use Rattle.domain_zone_signed.proofs.FindingSignatures.{none_signs, not_signed, none_covers, some_signs}
 use Rattle.domain_zone_signed.proofs.signatures.signatures_of.Goals as goal
 
 pub returns-then-covered-eq46 : goal.returns-then-covered-eq46

@@ -16,6 +16,6 @@ returns c =
     let end : c.push-2.new.self.items ≡ c.append_data.new.text.items ++ 10 ∷ [] = search rules in
     line_made (class_number c.args.front.now.class) (front_record c.args.front.now c.args.octets.now) name.0 held.0
     c.append_name.new.text.items c.append_middle.new.text.items c.append_type.new.text.items c.push.new.self.items c.append_data.new.text.items c.push-2.new.self.items
-    name.1 low held.1
+    name.1 low c.append_name.ensures.octets held.1
     (name.2 ∙ ap (λ (x : List ℕ). x ++ name_text name.0) c.new-line.ensures.items)
     c.in_ok-append_middle.ensures c.in_ok-append_type.ensures space held.2 end

@@ -1,7 +1,8 @@
-use Rattle.std.proofs.Common.{◌≡◌, ◌+◌, ℕ, List, length, arith, inr}
+use Rattle.std.proofs.Common.{◌≡◌, ◌+◌, ℕ, List, length, arith}
 use Rattle.domain_message_builder.specs.Opt.{Opt}
 use Rattle.domain_message_builder.specs.OptViews.{opt_of}
 use Rattle.domain_message_builder.specs.Padding.{padded_opt, padding_of}
+use Rattle.domain_message_builder.specs.PaddingViews.{SurpassesPadded}
 use Rattle.domain_message_builder.specs.Pushes.{with_reserved}
 use Rattle.domain_message_builder.specs.State.{State}
 use Rattle.domain_message_builder.specs.Views.{state_of, target_of}
@@ -18,10 +19,10 @@ returns-in-Err-clause-why g c =
     let n : ℕ = padding_of c.args.block len o c.args.following in
     let is : c.octets_to_block-padding.result ≡ n = padding_is c.args.block len c.args.following _ (c.len.result + c.record_len.result + 4 + c.from.result) o c.octets_to_block-padding.ensures (omega (arith, c.len.ensures, c.record_len.ensures, c.from.ensures)) in
     let size = padded_size o.options n in
-    inr (padded_lacks c.in-Err.e g.Target.Composer.compresses (padded_opt n o) (with_reserved c.args.following s) room
+    padded_lacks (SurpassesPadded c.args.block c.args.following c.args.opt.now c.args.self.now) c.in-Err.e g.Target.Composer.compresses (padded_opt n o) (with_reserved c.args.following s) room
     (omega (arith, size, is, c.len.ensures, c.record_len.ensures, c.from.ensures, c.limit.ensures, c.from-2.ensures, c.from-3.ensures))
     (omega (arith, size, is, c.len.ensures, c.record_len.ensures, c.from.ensures, c.limit.ensures, c.from-2.ensures, c.from-3.ensures))
-    (padded_refused c.in-Err.e g.Target.Composer.compresses o _ n c.args.following s (state_of g.Target.Octets.octets c.reserve.new.self) g.Target.Octets.capacity (target_of c.args.self.now) (target_of c.reserve.new.self) _ _ c.padded_record-record.ensures.head c.padded_record-record.ensures.options is c.in-Ok.ensures.ok c.in-Ok.ensures.target c.in-Err.ensures.why))
+    (padded_refused c.in-Err.e g.Target.Composer.compresses o _ n c.args.following s (state_of g.Target.Octets.octets c.reserve.new.self) g.Target.Octets.capacity (target_of c.args.self.now) (target_of c.reserve.new.self) _ _ c.padded_record-record.ensures.head c.padded_record-record.ensures.options is c.in-Ok.ensures.ok c.in-Ok.ensures.target c.in-Err.ensures.why)
 
 pub returns-clause-ok : goal.returns-clause-ok
 returns-clause-ok g c =

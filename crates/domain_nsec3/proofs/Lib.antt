@@ -1,0 +1,5 @@
+pub mod Iterating
+pub mod Fields
+pub mod Digits
+pub mod Reading
+pub mod Enclosing

@@ -1,0 +1,5 @@
+pub mod Hashing
+pub mod Covering
+pub mod Records
+pub mod Labels
+pub mod Enclosers

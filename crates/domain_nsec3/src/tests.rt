@@ -1,0 +1,297 @@
+//! The zone of RFC 5155, appendix A, and responses of appendix B.
+use crate::{
+    HashedRecord, Nsec3, Nsec3Param, TooManyIterations, closest_encloser, covers, hash_name,
+    hash_of_label, label_of_hash, matches,
+};
+use domain_name::Name;
+
+/// The salt of the zone.
+const SALT: [u8; 4] = [0xaa, 0xbb, 0xcc, 0xdd];
+
+/// The data of the zone's first NSEC3 record, that of its apex.
+const FIRST: [u8; 39] = [
+    1, 1, 0, 12, 4, 0xaa, 0xbb, 0xcc, 0xdd, 20, 0x17, 0x4e, 0xb2, 0x40, 0x9f, 0xe2, 0x8b, 0xcb,
+    0x48, 0x87, 0xa1, 0x83, 0x6f, 0x95, 0x7f, 0x0a, 0x84, 0x25, 0xe2, 0x7b, 0, 7, 0x22, 1, 0, 0, 0,
+    2, 0x90,
+];
+
+/// The hash of a name in the zone.
+fn hash_of(name: &[u8]) -> [u8; 20] {
+    let Ok(name) = Name::from_slice(name) else {
+        return [0; 20];
+    };
+    match hash_name(&name, 12, &SALT, 12) {
+        Ok(hash) => hash,
+        Err(_) => [0; 20],
+    }
+}
+
+/// The hash that a label has.
+fn hash_in(label: &[u8]) -> [u8; 20] {
+    match hash_of_label(label) {
+        Some(hash) => hash,
+        None => [0; 20],
+    }
+}
+
+/// Whether a name has this label, and this label its hash.
+fn has_label(name: &[u8], label: &[u8]) -> bool {
+    let hash = hash_of(name);
+    label_of_hash(&hash).as_slice() == label && hash_of_label(label) == Some(hash)
+}
+
+/// The hashes of the zone's names, and of names that don't exist (RFC 5155, A, B.1, B.4 and B.5).
+#[test]
+fn hashes_of_the_zone(rt: HostRuntime) {
+    assert!(rt; has_label(b"\x07example\x00", b"0p9mhaveqvm6t7vbl5lop2u3t2rp3tom"));
+    assert!(rt; has_label(b"\x01a\x07example\x00", b"35mthgpgcu1qg68fab165klnsnk3dpvl"));
+    assert!(rt;
+        has_label(
+            b"\x02ai\x07example\x00",
+            b"gjeqe526plbf1g8mklp59enfd789njgi"
+        )
+    );
+    assert!(rt;
+        has_label(
+            b"\x03ns1\x07example\x00",
+            b"2t7b4g4vsa5smi47k61mv5bv1a22bojr"
+        )
+    );
+    assert!(rt;
+        has_label(
+            b"\x03ns2\x07example\x00",
+            b"q04jkcevqvmu85r014c7dkba38o0ji5r"
+        )
+    );
+    assert!(rt; has_label(b"\x01w\x07example\x00", b"k8udemvp1j2f7eg6jebps17vp3n8i58h"));
+    assert!(rt;
+        has_label(
+            b"\x01*\x01w\x07example\x00",
+            b"r53bq7cc2uvmubfu5ocmm6pers9tk9en"
+        )
+    );
+    assert!(rt;
+        has_label(
+            b"\x01x\x01w\x07example\x00",
+            b"b4um86eghhds6nea196smvmlo4ors995"
+        )
+    );
+    assert!(rt;
+        has_label(
+            b"\x01y\x01w\x07example\x00",
+            b"ji6neoaepv8b5o6k4ev33abha8ht9fgc"
+        )
+    );
+    assert!(rt;
+        has_label(
+            b"\x01x\x01y\x01w\x07example\x00",
+            b"2vptu5timamqttgl4luu9kg21e0aor3s"
+        )
+    );
+    assert!(rt;
+        has_label(
+            b"\x02xx\x07example\x00",
+            b"t644ebqk9bibcna874givr6joj62mlhv"
+        )
+    );
+    assert!(rt;
+        has_label(
+            b"\x202t7b4g4vsa5smi47k61mv5bv1a22bojr\x07example\x00",
+            b"kohar7mbb8dc2ce8a9qvl8hon4k53uhi"
+        )
+    );
+    assert!(rt;
+        has_label(
+            b"\x01c\x01x\x01w\x07example\x00",
+            b"0va5bpr2ou0vk0lbqeeljri88laipsfh"
+        )
+    );
+    assert!(rt;
+        has_label(
+            b"\x01*\x01x\x01w\x07example\x00",
+            b"92pqneegtaue7pjatc3l3qnk738c6v5m"
+        )
+    );
+    assert!(rt; has_label(b"\x01c\x07example\x00", b"4g6p9u5gvfshp30pqecj98b3maqbn1ck"));
+    assert!(rt;
+        has_label(
+            b"\x01z\x01w\x07example\x00",
+            b"qlu7gtfaeh0ek0c05ksfhdpbcgglbe03"
+        )
+    );
+}
+
+/// The case of a name doesn't matter, nor that of a label.
+#[test]
+fn case(rt: HostRuntime) {
+    assert!(rt;
+        has_label(
+            b"\x02XX\x07eXample\x00",
+            b"t644ebqk9bibcna874givr6joj62mlhv"
+        )
+    );
+    let hash = hash_of_label(b"T644EBQK9BIBCNA874GIVR6JOJ62MLHV");
+    assert_eq!(rt; hash, Some(hash_of(b"\x02xx\x07example\x00")));
+}
+
+/// A hash without salt and iterations, as RFC 9276 recommends: Python's hashlib has the same.
+#[test]
+fn no_iterations(rt: HostRuntime) {
+    let Ok(name) = Name::from_slice(b"\x03com\x00") else {
+        return assert!(rt; false);
+    };
+    let Ok(hash) = hash_name(&name, 0, b"", 0) else {
+        return assert!(rt; false);
+    };
+    assert_eq!(rt;
+        label_of_hash(&hash).as_slice(),
+        b"ck0pojmg874ljref7efn8430qvit8bsm".as_slice()
+    );
+    assert_eq!(rt; hash_name(&name, 1, b"", 0), Err(TooManyIterations));
+}
+
+/// The limit is the most iterations that are made.
+#[test]
+fn limit(rt: HostRuntime) {
+    let Ok(name) = Name::from_slice(b"\x07example\x00") else {
+        return assert!(rt; false);
+    };
+    let apex = hash_of(b"\x07example\x00");
+    assert_eq!(rt; hash_name(&name, 12, &SALT, 12), Ok(apex));
+    assert_eq!(rt; hash_name(&name, 12, &SALT, 65535), Ok(apex));
+    assert_eq!(rt; hash_name(&name, 12, &SALT, 11), Err(TooManyIterations));
+    assert_eq!(rt;
+        hash_name(&name, 65535, &SALT, 65534),
+        Err(TooManyIterations)
+    );
+}
+
+/// What isn't the label of a hash.
+#[test]
+fn no_hash(rt: HostRuntime) {
+    assert_eq!(rt; hash_of_label(b""), None);
+    assert_eq!(rt; hash_of_label(b"t644ebqk9bibcna874givr6joj62mlh"), None);
+    assert_eq!(rt; hash_of_label(b"t644ebqk9bibcna874givr6joj62mlhv0"), None);
+    assert_eq!(rt; hash_of_label(b"t644ebqk9bibcna874givr6joj62mlhw"), None);
+}
+
+/// What records of the zone match and cover: names of B.1 and B.4, and the last record.
+#[test]
+fn matching_and_covering(rt: HostRuntime) {
+    let apex = hash_of(b"\x07example\x00");
+    let ns1 = hash_of(b"\x03ns1\x07example\x00");
+    let a = hash_of(b"\x01a\x07example\x00");
+    let x_w = hash_of(b"\x01x\x01w\x07example\x00");
+    let last = hash_of(b"\x02xx\x07example\x00");
+    let closer = hash_of(b"\x01c\x01x\x01w\x07example\x00");
+    let wildcard = hash_of(b"\x01*\x01x\x01w\x07example\x00");
+    let unsigned = hash_of(b"\x01c\x07example\x00");
+    assert!(rt; matches(&x_w, &x_w));
+    assert!(rt; !matches(&x_w, &closer));
+    assert!(rt; covers(&apex, &ns1, &closer));
+    assert!(rt; covers(&a, &x_w, &wildcard));
+    assert!(rt; covers(&a, &x_w, &unsigned));
+    assert!(rt; !covers(&apex, &ns1, &wildcard));
+    assert!(rt; !covers(&apex, &ns1, &apex));
+    assert!(rt; !covers(&apex, &ns1, &ns1));
+    assert!(rt; covers(&last, &apex, &[0xff; 20]));
+    assert!(rt; covers(&last, &apex, &[0; 20]));
+    assert!(rt; !covers(&last, &apex, &closer));
+    assert!(rt; !covers(&last, &apex, &apex));
+    assert!(rt; covers(&apex, &apex, &last));
+    assert!(rt; !covers(&apex, &apex, &apex));
+}
+
+/// The fields of the first record, and of the zone's NSEC3PARAM record.
+#[test]
+fn fields(rt: HostRuntime) {
+    let Ok(first) = Nsec3::read(&FIRST) else {
+        return assert!(rt; false);
+    };
+    assert_eq!(rt; first.algorithm, 1);
+    assert_eq!(rt; first.iterations, 12);
+    assert_eq!(rt; first.salt, SALT.as_slice());
+    assert_eq!(rt; first.next, hash_of(b"\x03ns1\x07example\x00").as_slice());
+    assert_eq!(rt; first.types, &FIRST[30..]);
+    assert!(rt; first.is_opt_out());
+    assert!(rt; first.is_usable());
+    assert!(rt; Nsec3::read(&FIRST[..29]).is_err());
+    let Ok(parameters) = Nsec3Param::read(b"\x01\x00\x00\x0c\x04\xaa\xbb\xcc\xdd") else {
+        return assert!(rt; false);
+    };
+    assert_eq!(rt; parameters.flags, 0);
+    assert_eq!(rt; parameters.iterations, 12);
+    assert_eq!(rt; parameters.salt, SALT.as_slice());
+    assert!(rt; Nsec3Param::read(b"\x01\x00\x00\x0c\x04\xaa\xbb\xcc").is_err());
+}
+
+/// A record of the zone with these hashes, without types.
+fn record<'m>(owner: &[u8], next: &'m [u8; 20]) -> HashedRecord<'m> {
+    HashedRecord {
+        owner: hash_in(owner),
+        data: Nsec3 {
+            algorithm: 1,
+            flags: 1,
+            iterations: 12,
+            salt: b"\xaa\xbb\xcc\xdd",
+            next: next.as_slice(),
+            types: b"",
+        },
+    }
+}
+
+/// Whether records prove that the closest encloser of a name has this length on the wire, and by which of them.
+fn proves(
+    records: &[HashedRecord<'_>],
+    name: &[u8],
+    closest: &[u8],
+    next_closer: &[u8],
+    matching: usize,
+    covering: usize,
+) -> bool {
+    let Ok(name) = Name::from_slice(name) else {
+        return false;
+    };
+    let Ok(Some(proof)) = closest_encloser(&name, 12, &SALT, 12, records) else {
+        return false;
+    };
+    proof.closest.as_slice() == closest
+        && proof.next_closer.as_slice() == next_closer
+        && proof.matching == matching
+        && proof.covering == covering
+}
+
+/// Whether records prove no closest encloser of a name.
+fn proves_none(records: &[HashedRecord<'_>], name: &[u8]) -> bool {
+    let Ok(name) = Name::from_slice(name) else {
+        return false;
+    };
+    match closest_encloser(&name, 12, &SALT, 12, records) {
+        Ok(None) => true,
+        _ => false,
+    }
+}
+
+/// The closest enclosers of B.1, B.4 and B.6, and the records of B.2 and B.5, which prove none.
+#[test]
+fn enclosers(rt: HostRuntime) {
+    let ns1 = hash_in(b"2t7b4g4vsa5smi47k61mv5bv1a22bojr");
+    let ai = hash_in(b"gjeqe526plbf1g8mklp59enfd789njgi");
+    let x_w = hash_in(b"b4um86eghhds6nea196smvmlo4ors995");
+    let long = hash_in(b"kohar7mbb8dc2ce8a9qvl8hon4k53uhi");
+    let wildcard = hash_in(b"r53bq7cc2uvmubfu5ocmm6pers9tk9en");
+    let first = record(b"0p9mhaveqvm6t7vbl5lop2u3t2rp3tom", &ns1);
+    let encloser = record(b"b4um86eghhds6nea196smvmlo4ors995", &ai);
+    let a = record(b"35mthgpgcu1qg68fab165klnsnk3dpvl", &x_w);
+    let w = record(b"k8udemvp1j2f7eg6jebps17vp3n8i58h", &long);
+    let ns2 = record(b"q04jkcevqvmu85r014c7dkba38o0ji5r", &wildcard);
+    let name = b"\x01a\x01c\x01x\x01w\x07example\x00";
+    assert!(rt; proves(&[first, encloser, a], name, &name[4..], &name[2..], 1, 0));
+    assert!(rt; proves_none(&[encloser, a], name));
+    let name = b"\x02mc\x01c\x07example\x00";
+    assert!(rt; proves(&[a, first], name, &name[5..], &name[3..], 1, 0));
+    let name = b"\x01a\x01z\x01w\x07example\x00";
+    assert!(rt; proves(&[w, ns2], name, &name[4..], &name[2..], 0, 1));
+    assert!(rt; proves_none(&[ns2], name));
+    assert!(rt; proves_none(&[first, encloser], b"\x01x\x01w\x07example\x00"));
+}

@@ -1,0 +1,10 @@
+use Rattle.std.proofs.Common.{◌∙◌, ap}
+use Rattle.std.proofs.lemmas.Map.Text.{is_eq-slice_cmp}
+use Rattle.std.specs.Ordering.{is_eq}
+use Rattle.domain_svcb.specs.ServiceViews.{service_key}
+use Rattle.domain_svcb.proofs.service.ServiceDataPartialEq.eq.Goals as goal
+
+pub returns : goal.returns
+returns g c =
+    let key = service_key {t = g.row.TYPE} g.F.DataField.uncompressed in
+    c.is_eq.ensures ∙ ap is_eq c.canonical_cmp.ensures ∙ is_eq-slice_cmp (key c.args.self.now) (key c.args.other.now)

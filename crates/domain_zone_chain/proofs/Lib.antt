@@ -1,7 +1,0 @@
-mod Among
-pub mod Calling
-mod Evaluating
-mod Joining
-mod Leading
-mod OneChain
-mod Repeating

@@ -1,5 +1,0 @@
-use Rattle.domain_zone_chain.proofs.Evaluating.{alias_rows}
-use Rattle.domain_zone_chain.proofs.laws.alias_rows.Goals as goal
-
-pub returns : goal.returns
-returns c = alias_rows
