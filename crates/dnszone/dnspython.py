@@ -26,16 +26,20 @@ def zone_text_of(data):
     return " ".join(words)
 
 
-def lines(path):
-    """A line for each record: owner, TTL, class, type and data."""
+def lines(path, relative=False):
+    """A line for each record: owner, TTL, class, type and data. With relative owners `$ORIGIN` is above them (RFC 1035,
+    5.1)."""
     text = pathlib.Path(path).read_text()
     origin = next(it.split()[1] for it in text.splitlines() if it.startswith("$ORIGIN"))
     zone = dns.zone.from_text(text, origin=origin, relativize=False)
+    if relative:
+        yield f"$ORIGIN {zone.origin}"
     for name in sorted(zone.nodes, key=lambda it: [label.lower() for label in reversed(it.labels)]):
+        owner = name.relativize(zone.origin) if relative else name
         for rdataset in sorted(zone.nodes[name], key=lambda it: (it.rdtype, it.covers)):
             kind = dns.rdatatype.to_text(rdataset.rdtype)
             for data in sorted(rdataset, key=lambda it: it.to_wire(origin=dns.name.root)):
-                yield f"{name} {rdataset.ttl} IN {kind} {zone_text_of(data)}"
+                yield f"{owner} {rdataset.ttl} IN {kind} {zone_text_of(data)}"
 
 
 def main():

@@ -3,8 +3,9 @@
 
 ASKED has questions about the zone of a text, `$ dnszone ask [--dnssec] NAME TYPE`, each with the lines of its answer.
 dnspython reads the zone and makes the query. The second writer of conformance_zones makes the message that
-answers it, from the RFCs, and dnspython reads that message, whose lines must be those in ASKED. With --write they are
-written there. Nothing of this is the program's."""
+answers it, from the RFCs, and dnspython reads that message, whose lines must be those in ASKED. `$ dnszone check
+--relative` has the records of the zone as dnspython reads them, with owners relative to the apex. With --write all
+lines are written there. Nothing of this is the program's."""
 
 import pathlib
 import re
@@ -18,7 +19,7 @@ import dns.rcode
 import dns.rdataclass
 import dns.rdatatype
 import dns.zone
-from dnspython import text_of
+from dnspython import lines as record_lines, text_of
 
 sys.path.insert(0, str(pathlib.Path(__file__).resolve().parents[1] / "conformance_zones"))
 import second_writer as writer
@@ -27,7 +28,7 @@ import second_writer as writer
 SIZE = 1232
 FLAGS = "QR AA TC RD RA AD CD".split()
 SECTIONS = "answer authority additional".split()
-QUESTION = re.compile(r"^\$ (dnszone ask (--dnssec )?(\S+) (\S+))\n", re.M)
+QUESTION = re.compile(r"^\$ (dnszone (?:ask (--dnssec )?(\S+) (\S+)|check --relative))\n", re.M)
 
 
 def zone_in(text):
@@ -80,14 +81,17 @@ def main():
     _, *parts = QUESTION.split(asked.read_text())
     made, differ = "", 0
     for said, has_do, name, rtype, lines in zip(*[iter(parts)] * 5):
-        wanted = answer(zone, has_do, name, rtype)
+        if name:
+            wanted = answer(zone, has_do, name, rtype)
+        else:
+            wanted = "".join(f"{it}\n" for it in record_lines(zone_file, relative=True))
         made += f"$ {said}\n{wanted}"
         if lines != wanted:
             differ += 1
             print(f"{said}: {lines}is to be\n{wanted}")
     if words == ["--write"]:
         asked.write_text(made)
-    print(f"{len(parts) // 5} messages, {differ} differences")
+    print(f"{len(parts) // 5} answers, {differ} differences")
     return int(differ > 0 or not parts)
 
 

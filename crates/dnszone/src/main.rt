@@ -1,6 +1,6 @@
 //! Reads the text of a zone from standard input. `dnszone check` prints its records in canonical order, or why they
-//! are no zone. `dnszone ask NAME TYPE` prints the message that answers a question, `dnszone answer QUERY..` in
-//! hexadecimal digits those that answer queries.
+//! are no zone; with `--relative` their owners are relative to the apex. `dnszone ask NAME TYPE` prints the message
+//! that answers a question, `dnszone answer QUERY..` in hexadecimal digits those that answer queries.
 //!
 //! README.md lists what is read and printed.
 #![tactic(auto)]
@@ -22,13 +22,13 @@ use domain_tool::tool::{ToolError, read_all};
 use domain_zone::Owner;
 use domain_zone_load::LoadError;
 use domain_zone_response::Transport;
-use domain_zone_write::write_zone;
+use domain_zone_write::{write_relative_zone, write_zone};
 use std::alloc::{AllocError, Global};
 use std::io::{Read, Write};
 use std::process::ExitCode;
 
-const USAGE: &str =
-    "usage: dnszone check | dnszone ask [--dnssec] NAME TYPE | dnszone answer [--stream] QUERY..";
+const USAGE: &str = "usage: dnszone check [--relative] | dnszone ask [--dnssec] NAME TYPE \
+    | dnszone answer [--stream] QUERY..";
 
 struct Zones;
 
@@ -65,6 +65,8 @@ impl From<AllocError> for Failure {
 enum Asked {
     /// The records of the zone.
     Records,
+    /// The records of the zone, with owners relative to its apex.
+    RelativeRecords,
     /// The response to a question for records of a type at a name, with records of DNSSEC or without them.
     Response(Owner, Rtype, bool),
     /// The messages that answer these queries.
@@ -103,6 +105,7 @@ fn response_to(alloc: Global, name: &str, rtype: &str, dnssec_ok: bool) -> Resul
 fn asked_by(alloc: Global, words: &[&str]) -> Result<Asked, Failure> {
     match words {
         ["check"] => Ok(Asked::Records),
+        ["check", "--relative"] => Ok(Asked::RelativeRecords),
         ["ask", "--dnssec", name, rtype] => response_to(alloc, name, rtype, true),
         ["ask", name, rtype] => response_to(alloc, name, rtype, false),
         ["answer", "--stream", queries @ ..] => asked_of(alloc, Transport::Stream, queries),
@@ -123,6 +126,7 @@ fn shown<R: Read>(alloc: Global, words: &[&str], input: &mut R) -> Result<Vec<u8
     let mut out = Vec::new(alloc);
     match &asked {
         Asked::Records => out = write_zone(alloc, &zone)?,
+        Asked::RelativeRecords => out = write_relative_zone(alloc, &zone)?,
         Asked::Response(name, rtype, dnssec_ok) => {
             let name = name.for_slice();
             put_response(alloc, &zone, name, *rtype, *dnssec_ok, &mut out)?;

@@ -8,7 +8,11 @@ pub mod Same
 pub mod Alike
 pub mod Reading
 pub mod Loading
+pub mod Wording
+pub mod Worded
+pub mod Below
 pub mod Stating
 pub mod Mapping
 pub mod Spelling
+pub mod Saying
 pub mod Loaded

@@ -34,14 +34,16 @@ use Rattle.domain_zone_text.specs.Meanings.{RecordFront, Said, Setting}
 use Rattle.domain_zone_text.specs.Meanings.Said.{nothing, line, record_front}
 use Rattle.domain_zone_text.specs.Reading.{entry_said, EntrySaid, HasData, HasNames, IsFrontData, ReadsEntry}
 use Rattle.domain_zone_text.specs.Reading.EntrySaid.{blank, directive_line, resource_record}
-use Rattle.domain_zone_write.proofs.Loading.{loaded}
 use Rattle.domain_zone_write.proofs.Members.{all_from, in_cases, later_in, first_in, none_in}
 use Rattle.domain_zone_write.proofs.Reading.{next_reads}
 use Rattle.domain_zone_write.proofs.Same.{only_signature, there_of}
+use Rattle.domain_zone_write.proofs.Saying.{lines_of, loaded, relative_loaded}
 use Rattle.domain_zone_write.proofs.Spelling.{fields_plain}
 use Rattle.domain_zone_write.proofs.Starting.{ends_last, known_end}
 use Rattle.domain_zone_write.proofs.Stating.{entry_small, HasSmallTtls, IsSmall, SaidSmall}
+use Rattle.domain_zone_write.proofs.Worded.{written_of}
 use Rattle.domain_zone_write.specs.Laws.{AreInRange, IsLoadedAs, IsReadable, IsReadableZone}
+use Rattle.domain_zone_write.specs.Relative.{IsRelativeText}
 use Rattle.domain_zone_write.specs.Texts.{IsLineOf, IsZoneText, record_of, zone_records}
 
 -- ---- results
@@ -295,11 +297,11 @@ lined P class (x ∷ rs) (w ∷ ws) f lines r there = ⊎_elim
     (λ (h : Contains rs r). lined P class rs ws f lines.1 r h)
     (in_cases x r rs there)
 
-in_range : (class : ℕ) (z : Zone) (text : List ℕ) → class < 65536 → IsZoneText class z text → AreInRange class z
-in_range class z text small lines = record {
+in_range : (class : ℕ) (z : Zone) (ws : List Written) → class < 65536 → AllZip (IsLineOf class) (zone_records z) ws → AreInRange class z
+in_range class z ws small lines = record {
   small_class = small;
   octets = all_from (λ (r : Inserted). AreOctets r.octets) (zone_records z)
-      (lined (λ (r : Inserted). AreOctets r.octets) class (zone_records z) lines.0 (λ r w line. line.octets) lines.1);
+      (lined (λ (r : Inserted). AreOctets r.octets) class (zone_records z) ws (λ r w line. line.octets) lines);
 }
 
 -- Its text is loaded as the same zone.
@@ -307,4 +309,12 @@ pub loaded_again : (text again apex : List ℕ) (class : ℕ) (made : kept.Zone)
     → IsZoneText class (zone_view made) again → IsLoadedAs again apex class (zone_view made)
 loaded_again text again apex class made absolute small it lines =
     let z = zone_view made in
-    loaded z apex class again (readable_zone text apex class made absolute (in_range class z again small lines) it) (sym it.apex_is) lines
+    loaded z apex class again (readable_zone text apex class made absolute (in_range class z lines.0 small lines.1) it) (sym it.apex_is) lines
+
+-- And so is its text with relative owners.
+pub relative_loaded_again : (text again apex : List ℕ) (class : ℕ) (made : kept.Zone) → IsAbsoluteWire apex → class < 65536 → IsZoneOf text apex class made
+    → IsRelativeText class (zone_view made) again → IsLoadedAs again apex class (zone_view made)
+relative_loaded_again text again apex class made absolute small it lines =
+    let z = zone_view made in
+    let written = lines_of z.apex class (zone_records z) lines.2.0 lines.2.1 in
+    relative_loaded z apex class again (readable_zone text apex class made absolute (in_range class z (written_of lines.2.0) small written) it) (sym it.apex_is) lines

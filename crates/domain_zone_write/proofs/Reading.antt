@@ -1,6 +1,6 @@
 -- The entries of the text of a zone are its records.
 use Rattle.std.proofs.Common.{◌≡◌, ◌∙◌, ℕ, List, [], ◌∷◌, ◌++◌, length, map, Some, refl, sym, ap, subst, inl, inr, arith}
-use Rattle.std.specs.List.{AllByRecursion, AllZip, Contains}
+use Rattle.std.specs.List.{AllByRecursion, AllZip}
 use Rattle.domain_descriptor.proofs.Exact.{data_or_fault}
 use Rattle.domain_descriptor.specs.Table.{known_fields}
 use Rattle.domain_label.proofs.WireLaws.{labels_in_wire}
@@ -19,7 +19,7 @@ use Rattle.domain_zone_text.specs.Meanings.Said.{nothing}
 use Rattle.domain_zone_text.specs.Reading.{EntrySaid, ReadsEntry}
 use Rattle.domain_zone_text.specs.Reading.EntrySaid.{blank}
 use Rattle.domain_zone_text.specs.Readers.{ReadsNext}
-use Rattle.domain_zone_write.proofs.Members.{first_in, inserted_by, later_in}
+use Rattle.domain_zone_write.proofs.Members.{inserted_by}
 use Rattle.domain_zone_write.proofs.Names.{name_there}
 use Rattle.domain_zone_write.specs.Laws.{IsReadable}
 use Rattle.domain_zone_write.specs.Texts.{HoldsData, IsLineOf}
@@ -89,15 +89,6 @@ records_back class (r ∷ rs) (w ∷ ws) ok lines =
     ap (λ (x : List Inserted). x ++ records_of (map record_said ws)) (record_back class r w ok.0.readable lines.0)
     ∙ ap (λ (x : List Inserted). r ∷ x) (records_back class rs ws ok.1 lines.1)
 
--- the record of a line among others
-pub line_among : (class : ℕ) (rs : List Inserted) (us vs : List Written) (v : Written) → AllZip (IsLineOf class) rs (us ++ v ∷ vs) → (r : Inserted) × Contains rs r × IsLineOf class r v
-line_among class [] [] vs v lines = absurd lines
-line_among class [] (u ∷ us) vs v lines = absurd lines
-line_among class (r ∷ rs) [] vs v lines = (r, first_in r rs, lines.0)
-line_among class (r ∷ rs) (u ∷ us) vs v lines =
-    let it = line_among class rs us vs v lines.1 in
-    (it.0, later_in r it.0 rs it.1, it.2)
-
 -- ---- the entries of the text
 pub next_reads : (s : Setting) (text : List ℕ) (e : EntrySaid) (after : List ℕ) (t : Setting) → ReadsNext s text (Some e) after t → ReadsEntry s text e after t
 next_reads s [] e after t next = absurd next
@@ -116,40 +107,39 @@ reads_blank s = record {
   leaves = refl;
 }
 
--- Entries that a text starts with are some of its records, and the others are those of the rest.
-pub record Parted (ws : List Written) (es : List EntrySaid) (rest : List ℕ) (t : Setting) : Type 0 where
-  pub before : List Written
-  pub after : List Written
-  pub parts : ws ≡ before ++ after
-  pub entries : es ≡ map record_said before
-  pub reads : ReadsRecords t rest after
+pub record_no_blank : (w : Written) → record_said w ≡ blank → ⊥
+record_no_blank w e = cc
 
-pub parted : (s t : Setting) (text rest : List ℕ) (es : List EntrySaid) (ws : List Written) → HasEntries s text es rest t → ReadsRecords s text ws → Parted ws es rest t
-parted s t text rest [] ws has reads = record {
-  before = [];
-  after = ws;
-  parts = refl;
-  entries = refl;
-  reads = subst (λ (x : List ℕ). ReadsRecords t x ws) (sym has.0) (subst (λ (x : Setting). ReadsRecords x text ws) (sym has.1) reads);
-}
-parted s t text rest (e ∷ es) [] has reads =
-    absurd (subst (λ (x : List ℕ). ReadsNext s x (Some e) has.0 has.1) reads has.2)
-parted s t text rest (e ∷ es) (w ∷ ws) has reads =
-    let same = one_entry s text e (record_said w) has.0 reads.0 has.1 (after_record s w) (next_reads s text e has.0 has.1 has.2) reads.1 in
-    let others : ReadsRecords has.1 has.0 ws = subst (λ (x : List ℕ). ReadsRecords has.1 x ws) (sym same.1) (subst (λ (x : Setting). ReadsRecords x reads.0 ws) (sym same.2) reads.2) in
-    let it = parted has.1 t has.0 rest es ws has.3 others in
-    record {
-      before = w ∷ it.before;
-      after = it.after;
-      parts = ap (λ (x : List Written). w ∷ x) it.parts;
-      entries = ap (λ (x : EntrySaid). x ∷ es) same.0 ∙ ap (λ (x : List EntrySaid). record_said w ∷ x) it.entries;
-      reads = it.reads;
-    }
+-- An entry that isn't blank is the next one.
+pub next_of : (s : Setting) (text : List ℕ) (e : EntrySaid) (after : List ℕ) (t : Setting) → (e ≡ blank → ⊥) → ReadsEntry s text e after t → ReadsNext s text (Some e) after t
+next_of s [] e after t some reads = absurd (some (one_entry s [] e blank after [] t s reads (reads_blank s)).0)
+next_of s (c ∷ cs) e after t some reads = reads
 
-blank_no_record : (w : Written) → record_said w ≡ blank → ⊥
-blank_no_record w e = cc
+-- The lines of records are their entries, and there are no others.
+pub entries_of : (s : Setting) (text : List ℕ) (ws : List Written) → ReadsRecords s text ws → (t : Setting) × HasEntries s text (map record_said ws) [] t
+entries_of s text [] reads = (s, (sym reads, refl))
+entries_of s text (w ∷ ws) (rest, reads, others) =
+    let u = after_record s w in
+    let it = entries_of u rest ws others in
+    (it.0, (rest, u, next_of s text (record_said w) rest u (record_no_blank w) reads, it.1))
+
+-- Entries that a text starts with are the first of all its entries, and the others are those of the rest.
+pub parted : (s t u : Setting) (text rest : List ℕ) (es all : List EntrySaid) → HasEntries s text es rest t → HasEntries s text all [] u
+    → (after : List EntrySaid) × (all ≡ es ++ after) × HasEntries t rest after [] u
+parted s t u text rest [] all has whole = (
+  all,
+  refl,
+  subst (λ (x : List ℕ). HasEntries t x all [] u) (sym has.0) (subst (λ (x : Setting). HasEntries x text all [] u) (sym has.1) whole),
+)
+parted s t u text rest (e ∷ es) [] has whole =
+    absurd (subst (λ (x : List ℕ). ReadsNext s x (Some e) has.0 has.1) (sym whole.0) has.2)
+parted s t u text rest (e ∷ es) (a ∷ all) has whole =
+    let same = one_entry s text e a has.0 whole.0 has.1 whole.1 (next_reads s text e has.0 has.1 has.2) (next_reads s text a whole.0 whole.1 whole.2) in
+    let others : HasEntries has.1 has.0 all [] u = subst (λ (x : List ℕ). HasEntries has.1 x all [] u) (sym same.1) (subst (λ (x : Setting). HasEntries x whole.0 all [] u) (sym same.2) whole.3) in
+    let it = parted has.1 t u has.0 rest es all has.3 others in
+    (it.0, ap (λ (x : EntrySaid). x ∷ all) (sym same.0) ∙ ap (λ (x : List EntrySaid). e ∷ x) it.1, it.2)
 
 -- At the end there are no others.
-pub none_left : (t : Setting) (after : List Written) → ReadsRecords t [] after → after ≡ []
-none_left t [] reads = refl
-none_left t (w ∷ ws) reads = absurd (blank_no_record w (one_entry t [] (record_said w) blank reads.0 [] (after_record t w) t reads.1 (reads_blank t)).0)
+pub none_left : (t u : Setting) (after : List EntrySaid) → HasEntries t [] after [] u → after ≡ []
+none_left t u [] has = refl
+none_left t u (e ∷ es) has = absurd has.2

@@ -15,6 +15,7 @@ use Rattle.domain_zone_laws.specs.Zone.{Zone, IsZone}
 use Rattle.domain_zone_load.specs.declared.error.LoadError.{LoadError}
 use Rattle.domain_zone_load.specs.declared.error.LoadError.TheVariants as load
 use Rattle.domain_zone_load.specs.Loads.{IsNoZone, IsZoneOf}
+use Rattle.domain_zone_write.specs.Relative.{IsRelativeText}
 use Rattle.domain_zone_write.specs.Texts.{IsZoneText, zone_records}
 
 -- A text can say the record: its TTL is below 2^31 (RFC 2181, 8), and its octets are at most 65,535, data of its type
@@ -71,4 +72,15 @@ IsLoadedToBeReadable text apex class made =
 abbrev pub IsLoadedAgain : List ℕ → List ℕ → List ℕ → ℕ → kept.Zone → Type 0
 IsLoadedAgain text again apex class made =
     IsAbsoluteWire apex → class < 65536 → IsZoneOf text apex class made → IsZoneText class (zone_view made) again
+    → IsLoadedAs again apex class (zone_view made)
+
+-- The text of a zone with owners relative to its apex is loaded as that zone.
+abbrev pub IsRelativeToBeLoaded : Zone → List ℕ → ℕ → List ℕ → Type 0
+IsRelativeToBeLoaded z apex class text =
+    IsReadableZone class z → labels_in apex ≡ z.apex → IsRelativeText class z text → IsLoadedAs text apex class z
+
+-- Such a text of a zone that was loaded is loaded as the same zone.
+abbrev pub IsRelativeLoadedAgain : List ℕ → List ℕ → List ℕ → ℕ → kept.Zone → Type 0
+IsRelativeLoadedAgain text again apex class made =
+    IsAbsoluteWire apex → class < 65536 → IsZoneOf text apex class made → IsRelativeText class (zone_view made) again
     → IsLoadedAs again apex class (zone_view made)

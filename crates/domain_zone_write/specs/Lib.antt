@@ -1,3 +1,4 @@
 pub mod Texts
 pub mod Fronts
+pub mod Relative
 pub mod Laws

@@ -1,14 +1,19 @@
 -- The records of a zone, and the text that has a line for each (RFC 1035, 5.1).
 use Rattle.std.specs.Prelude.{◌≡◌, ◌⊎◌, ℕ, List, [], ◌∷◌, ◌++◌, map}
+use Rattle.std.specs.Fmt.{decimal}
 use Rattle.std.specs.List.{AllZip, flat_map}
 use Rattle.domain_descriptor.specs.Fields.{AreNoData}
 use Rattle.domain_descriptor.specs.Table.{known_fields}
 use Rattle.domain_descriptor.specs.declared.fault.DataFault.{DataFault}
+use Rattle.domain_header.specs.Tables.{class_text}
 use Rattle.domain_label.specs.Wire.{Root, wire}
 use Rattle.domain_rdata_text.specs.Laws.{AreOctets}
 use Rattle.domain_rdata_text.specs.Outcome.{AppendedTo}
+use Rattle.domain_rdata_text.specs.Rtypes.{type_text}
+use Rattle.domain_rdata_text.specs.Texts.{data_words}
 use Rattle.domain_rdata_text.specs.Values.{Val, ValuesAt}
 use Rattle.domain_rdata_text.specs.Values.Val.{generic}
+use Rattle.domain_rdata_text.specs.Words.{spaced}
 use Rattle.domain_zone.specs.Building.{Inserted}
 use Rattle.domain_zone_laws.specs.Zone.{Zone, RRset, record_ttl}
 use Rattle.domain_zone_text.specs.Lines.{Written, record_line, record_lines}
@@ -45,6 +50,12 @@ pub record IsLineOf (class : ℕ) (r : Inserted) (w : Written) : Type 0 where
 abbrev pub IsZoneText : ℕ → Zone → List ℕ → Type 0
 IsZoneText class z text =
     (ws : List Written) × AllZip (IsLineOf class) (zone_records z) ws × (text ≡ record_lines ws)
+
+-- What the line of this record has after its owner was appended: TTL, class, type and data with a space before each, and
+-- the end of the line. Its octets are in their range.
+abbrev pub AppendsAfterOwner : ℕ → Inserted → List ℕ → List ℕ → Type 0
+AppendsAfterOwner class r old new = (vs : List Val) × HoldsData r.rtype class r.octets vs × AreOctets r.octets
+    × AppendedTo old (spaced (decimal r.ttl ∷ class_text class ∷ type_text r.rtype ∷ data_words vs) ++ 10 ∷ []) new
 
 -- The line of this record was appended.
 abbrev pub AppendsLine : ℕ → Inserted → List ℕ → List ℕ → Type 0

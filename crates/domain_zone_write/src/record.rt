@@ -3,7 +3,7 @@ ghost use Rattle.std.specs.Prelude.{◌≡◌, ℕ, List, [], ◌∷◌, ◌++�
 ghost use Rattle.std.specs.Fmt.{decimal};
 ghost use Rattle.domain_header.specs.Tables.{class_text};
 ghost use Rattle.domain_header.specs.Values.{class_number};
-ghost use Rattle.domain_label.specs.Wire.{Root, wire};
+ghost use Rattle.domain_label.specs.Wire.{IsAbsoluteName, Root, wire};
 ghost use Rattle.domain_name.specs.Names.{name_labels};
 ghost use Rattle.domain_rdata_text.specs.Laws.{AreOctets};
 ghost use Rattle.domain_rdata_text.specs.Names.{name_text};
@@ -13,7 +13,7 @@ ghost use Rattle.domain_rdata_text.specs.Texts.{data_text};
 ghost use Rattle.domain_rdata_text.specs.Values.{Val};
 ghost use Rattle.domain_zone_text.specs.Lines.{Written, record_line};
 ghost use Rattle.domain_zone_write.specs.Fronts.{front_record};
-ghost use Rattle.domain_zone_write.specs.Texts.{AppendsLine, HoldsData, IsLineOf};
+ghost use Rattle.domain_zone_write.specs.Texts.{AppendsAfterOwner, AppendsLine, HoldsData, IsLineOf};
 
 use domain_descriptor::Rdata;
 use domain_header::Class;
@@ -37,7 +37,7 @@ pub struct Front<'a> {
 }
 
 /// The call does nothing: its contract is that octets of the program are below 256.
-fn are_octets(octets: &[u8])
+pub(crate) fn are_octets(octets: &[u8])
     ensures { AreOctets octets.now }
 {}
 
@@ -50,6 +50,7 @@ pub fn append_name(alloc: Global, name: &Name<&[u8]>, text: &mut Vec<u8>) -> Res
     ensures ok { OnOk result ((ls : List (List ℕ)) × (ls ++ Root ≡ name_labels name.now)
         × AppendedTo text.old.items (name_text ls) text.new.items) }
     ensures unchanged { OnErr result (text.new.items ≡ text.old.items) }
+    ensures absolute { IsAbsoluteName (name_labels name.now) }
     ensures octets { AreOctets (wire (name_labels name.now)) }
 {
     let octets = name.as_slice();
@@ -114,6 +115,25 @@ fn append_data(
     }
 }
 
+/// Appends what the line of a record has after its owner: TTL, class, type and data with a space before each, and the
+/// end of the line.
+pub(crate) fn append_after_owner(
+    alloc: Global,
+    front: &Front<'_>,
+    octets: &[u8],
+    text: &mut Vec<u8>,
+) -> Result<(), AllocError>
+    ensures { OnOk result (AppendsAfterOwner (class_number front.now.class)
+        (front_record front.now octets.now) text.old.items text.new.items) }
+{
+    append_middle(alloc, front.ttl, front.class, text)?;
+    append_type(alloc, front.rtype, text)?;
+    text.push(b' ')?;
+    append_data(alloc, front.rtype, front.class, octets, text)?;
+    text.push(b'\n')?;
+    Ok(())
+}
+
 /// Returns the line of a record.
 fn line_of(alloc: Global, front: &Front<'_>, octets: &[u8]) -> Result<Vec<u8>, AllocError>
     ensures { IfOk result (λ line. (w : Written)
@@ -122,11 +142,7 @@ fn line_of(alloc: Global, front: &Front<'_>, octets: &[u8]) -> Result<Vec<u8>, A
 {
     let mut line = Vec::new(alloc);
     append_name(alloc, &front.owner, &mut line)?;
-    append_middle(alloc, front.ttl, front.class, &mut line)?;
-    append_type(alloc, front.rtype, &mut line)?;
-    line.push(b' ')?;
-    append_data(alloc, front.rtype, front.class, octets, &mut line)?;
-    line.push(b'\n')?;
+    append_after_owner(alloc, front, octets, &mut line)?;
     Ok(line)
 }
 

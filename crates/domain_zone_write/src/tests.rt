@@ -1,5 +1,5 @@
 //! Zones are written, and loaded again.
-use crate::write_zone;
+use crate::{write_relative_zone, write_zone};
 use domain_header::Class;
 use domain_name::Name;
 use domain_zone::{Owner, Zone};
@@ -41,10 +41,36 @@ const UNKNOWN_WRITTEN: &[u8] = b"example. 5400 CLASS300 NS ns.example.\n\
     example. 5400 CLASS300 TYPE65280 \\# 3 abcdef\n\
     example. 5400 CLASS300 TYPE65281 \\# 0\n";
 
-/// The name `example.`
-fn apex(rt: &impl Abort, alloc: Global) -> Owner {
+/// RFC 1035, 5.1: the apex is `@`, which a label is after a backslash; a dollar sign at the start of a line is that of
+/// a directive; and a name without a final dot goes on with the origin. The last owner isn't spelled as the apex is.
+const RELATIVE: &[u8] =
+    b"@ 3600 SOA ns host 1 2 3 4 5\n NS ns\n\\@ A 192.0.2.1\n\\$TTL A 192.0.2.3\n\
+    a\\.b.c A 192.0.2.4\n*.c MX 10 @\nns A 192.0.2.2\nWWW.EXAMPLE. A 192.0.2.5\n";
+
+const RELATIVE_WRITTEN: &[u8] = b"$ORIGIN example.\n\
+    @ 3600 IN NS ns.example.\n\
+    @ 3600 IN SOA ns.example. host.example. 1 2 3 4 5\n\
+    \\$TTL 3600 IN A 192.0.2.3\n\
+    \\@ 3600 IN A 192.0.2.1\n\
+    *.c 3600 IN MX 10 example.\n\
+    a\\.b.c 3600 IN A 192.0.2.4\n\
+    ns 3600 IN A 192.0.2.2\n\
+    WWW.EXAMPLE. 3600 IN A 192.0.2.5\n";
+
+/// The apex is the root: each owner is relative to it.
+const ROOT: &[u8] = b"@ 3600 SOA . . 1 2 3 4 5\n NS a\na A 192.0.2.1\n";
+
+const ROOT_WRITTEN: &[u8] = b"$ORIGIN .\n\
+    @ 3600 IN NS a.\n\
+    @ 3600 IN SOA . . 1 2 3 4 5\n\
+    a 3600 IN A 192.0.2.1\n";
+
+const EXAMPLE: &[u8] = b"\x07example\0";
+
+/// The name of these octets.
+fn name(rt: &impl Abort, alloc: Global, wire: &[u8]) -> Owner {
     let mut octets = Vec::new(alloc);
-    if octets.extend_from_slice(b"\x07example\0").is_err() {
+    if octets.extend_from_slice(wire).is_err() {
         panic!(rt; "no memory");
     }
     match Name::from_octets(octets) {
@@ -53,12 +79,17 @@ fn apex(rt: &impl Abort, alloc: Global) -> Owner {
     }
 }
 
-/// The zone of a text.
-fn zone_of(rt: &impl Abort, alloc: Global, class: u16, text: &[u8]) -> Zone {
-    match load(alloc, text, apex(rt, alloc), Class::from_int(class)) {
+/// The zone of a text at an apex.
+fn zone_at(rt: &impl Abort, alloc: Global, apex: &[u8], class: u16, text: &[u8]) -> Zone {
+    match load(alloc, text, name(rt, alloc, apex), Class::from_int(class)) {
         Ok(zone) => zone,
         Err(why) => panic!(rt; "no zone: {why:?}"),
     }
+}
+
+/// The zone of a text.
+fn zone_of(rt: &impl Abort, alloc: Global, class: u16, text: &[u8]) -> Zone {
+    zone_at(rt, alloc, EXAMPLE, class, text)
 }
 
 /// The text of the zone of a text.
@@ -75,6 +106,32 @@ fn check_text(rt: &impl Abort, alloc: Global, class: u16, text: &[u8], expected:
     assert!(rt; written.as_slice() == expected);
     let again = rewritten(rt, alloc, class, written.as_slice());
     assert!(rt; again.as_slice() == expected);
+}
+
+/// The text of the zone of a text, with owners relative to its apex.
+fn relative_of(rt: &impl Abort, alloc: Global, apex: &[u8], text: &[u8]) -> Vec<u8> {
+    match write_relative_zone(alloc, &zone_at(rt, alloc, apex, 1, text)) {
+        Ok(text) => text,
+        Err(_) => panic!(rt; "no memory"),
+    }
+}
+
+/// The relative text of a zone is this one, and that of the zone that is loaded from it is the same.
+fn check_relative(rt: &impl Abort, alloc: Global, apex: &[u8], text: &[u8], expected: &[u8]) {
+    let written = relative_of(rt, alloc, apex, text);
+    assert!(rt; written.as_slice() == expected);
+    let again = relative_of(rt, alloc, apex, written.as_slice());
+    assert!(rt; again.as_slice() == expected);
+}
+
+#[test]
+fn relative_owners_are_written(rt: HostRuntime) {
+    check_relative(&rt, rt.alloc(), EXAMPLE, RELATIVE, RELATIVE_WRITTEN);
+}
+
+#[test]
+fn owners_are_relative_to_the_root(rt: HostRuntime) {
+    check_relative(&rt, rt.alloc(), b"\0", ROOT, ROOT_WRITTEN);
 }
 
 #[test]

@@ -15,5 +15,8 @@ returns-clause-ok c = on_ok c.show.result _ _
     c.as_slice-octets.ensures.wire c.in-Ok.ensures.ok)
     c.show.ensures.ok
 
+pub returns-clause-absolute : goal.returns-clause-absolute
+returns-clause-absolute c = c.as_slice-octets.ensures.absolute
+
 pub returns-clause-octets : goal.returns-clause-octets
 returns-clause-octets c = subst (λ (x : List ℕ). AreOctets x) c.as_slice-octets.ensures.wire c.are_octets.ensures

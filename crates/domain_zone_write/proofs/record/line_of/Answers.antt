@@ -1,21 +1,14 @@
-use Rattle.std.proofs.Common.{◌≡◌, ◌∙◌, ℕ, List, [], ◌∷◌, ◌++◌, ap, rules}
-use Rattle.std.proofs.Math.Facts.{Fits-lt-pow}
+use Rattle.std.proofs.Common.{◌∙◌, ℕ, List, ◌++◌, ap}
 use Rattle.domain_header.specs.Values.{class_number}
 use Rattle.domain_rdata_text.specs.Names.{name_text}
 use Rattle.domain_zone_write.specs.Fronts.{front_record}
 use Rattle.domain_zone_write.proofs.Appending.{line_made}
-use Rattle.domain_zone_write.proofs.Starting.{octets_low}
 use Rattle.domain_zone_write.proofs.record.line_of.Goals as goal
 
 pub returns : goal.returns
 returns c =
     let name = c.in_ok-append_name.ensures.ok in
-    let held = c.in_ok-append_data.ensures in
-    let low = octets_low c.args.octets.now (λ (i : ℕ). Fits-lt-pow (c.type_inv.octets i)) in
-    let space : c.push.new.self.items ≡ c.append_type.new.text.items ++ 32 ∷ [] = search rules in
-    let end : c.push-2.new.self.items ≡ c.append_data.new.text.items ++ 10 ∷ [] = search rules in
-    line_made (class_number c.args.front.now.class) (front_record c.args.front.now c.args.octets.now) name.0 held.0
-    c.append_name.new.text.items c.append_middle.new.text.items c.append_type.new.text.items c.push.new.self.items c.append_data.new.text.items c.push-2.new.self.items
-    name.1 low c.append_name.ensures.octets held.1
+    line_made (class_number c.args.front.now.class) (front_record c.args.front.now c.args.octets.now) name.0
+    c.append_name.new.text.items c.append_after_owner.new.text.items name.1 c.append_name.ensures.octets
     (name.2 ∙ ap (λ (x : List ℕ). x ++ name_text name.0) c.new-line.ensures.items)
-    c.in_ok-append_middle.ensures c.in_ok-append_type.ensures space held.2 end
+    c.in_ok-append_after_owner.ensures
