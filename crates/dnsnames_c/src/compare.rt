@@ -1,14 +1,19 @@
 //! Comparing names.
-ghost use Rattle.std.specs.Prelude.{◌≡◌, ◌≢◌, ◌≤◌, length, IsSome, IfSome, ◌↔◌};
-ghost use Rattle.domain_label.specs.Wire.{IsAbsoluteWire};
+ghost use Rattle.std.specs.Prelude.{◌≡◌, ◌≢◌, ◌≤◌, ◌<◌, ◌+◌, length, take, IsTrue, ◌↔◌};
+ghost use Rattle.domain_label.specs.Labels.{label_octets};
+ghost use Rattle.domain_label.specs.Lowercase.{lowercase};
+ghost use Rattle.domain_label.specs.Wire.{IsWire, IsAbsoluteWire};
+ghost use Rattle.domain_list.specs.Order.{last_order, TellsDifference};
+ghost use Rattle.domain_flat.specs.Flat.{HasFirst};
 ghost use Rattle.domain_siphash.specs.SipHash.{siphash};
 ghost use Rattle.dnsnames_c.specs.Comparing.{EqualNames, name_order, EndsInName, canonical_name_octets, GivesCanonicalForm};
 ghost use Rattle.dnsnames_c.specs.Status.{order_number};
 
+use crate::name::is_name;
 use crate::put::give;
-use arrayvec::ArrayVec;
-use domain_list::comparing::{eq_names, order_names};
-use domain_list::composing::compose_canonical_name;
+use domain_flat::iter::first_label;
+use domain_label::Label;
+use domain_label::ignoring_case::same_octets;
 use domain_name::Name;
 use domain_siphash::siphash_2_4;
 use std::cmp::Ordering;
@@ -32,11 +37,109 @@ pub extern "C" fn dnsnames_eq(left: &[u8], right: &[u8], equal: &mut u32) -> u32
     ensures bit { result ≡ 0 → equal.new ≤ 1 }
     ensures err { result ≢ 0 → (result ≡ 9) × (equal.new ≡ equal.old) }
 {
-    let (Ok(left), Ok(right)) = (Name::from_slice(left), Name::from_slice(right)) else {
+    if !is_name(left) {
         return 9;
-    };
-    *equal = if eq_names(&left, &right) { 1 } else { 0 };
+    }
+    // Octets that are a name's ignoring case are a name.
+    if same_octets(left, right) {
+        *equal = 1;
+        return 0;
+    }
+    if !is_name(right) {
+        return 9;
+    }
+    *equal = 0;
     0
+}
+
+/// The first label of a wire format that has one, and the wire format after it.
+#[tactic(auto, using(crate::proofs::LastLabels::sized_first))]
+#[inline(always)]
+fn split_first(octets: &[u8]) -> (Label<'_>, &[u8])
+    requires wire { IsWire octets.now }
+    requires some { 0 < length octets.now }
+    ensures first { HasFirst octets.now (label_octets result.0) result.1.now }
+    ensures size { length octets.now ≡ length result.1.now + length (label_octets result.0) + 1 }
+{
+    let Some((label, rest)) = first_label(octets) else {
+        unreachable!();
+    };
+    let Ok(label) = Label::from_slice(label) else {
+        unreachable!();
+    };
+    (label, rest)
+}
+
+/// Whether octets are the same ignoring ASCII case, where a try is left.
+#[inline(always)]
+fn found_same(a: &[u8], b: &[u8], tries: &mut u8) -> bool
+    ensures { IsTrue result → lowercase a.now ≡ lowercase b.now }
+{
+    if *tries == 0 {
+        return false;
+    }
+    *tries -= 1;
+    same_octets(a, b)
+}
+
+/// Whether two labels differ, apart from ASCII case.
+#[inline(always)]
+fn differ(x: &Label<'_>, y: &Label<'_>) -> bool
+    ensures { TellsDifference result (label_octets x.now) (label_octets y.now) }
+{
+    x != y
+}
+
+/// The order of two names of which these are the last labels in which they differ (RFC 4034, 6.1).
+fn order_of_last(x: Option<Label<'_>>, y: Option<Label<'_>>) -> Ordering
+    ensures { result ≡ last_order x.entry y.entry }
+{
+    match (x, y) {
+        (None, None) => Ordering::Equal,
+        (None, Some(_)) => Ordering::Less,
+        (Some(_), None) => Ordering::Greater,
+        (Some(x), Some(y)) => x.cmp(&y),
+    }
+}
+
+/// The canonical order of two names (RFC 4034, 6.1).
+///
+/// Both are gone over once, from the front. Their common end has as many octets in both, so labels are compared only
+/// where as many octets are left of both, and the last ones that differ decide. Most names differ in one label at
+/// most: so twice, at the first such place and after a label that differs, all that is left is compared at once.
+fn order_octets(left: &[u8], right: &[u8]) -> Ordering
+    requires left { IsAbsoluteWire left.now }
+    requires right { IsAbsoluteWire right.now }
+    ensures { result ≡ name_order left.now right.now }
+{
+    let mut a = left;
+    let mut b = right;
+    let mut x = None;
+    let mut y = None;
+    let mut tries = 2;
+    'labels: while a.len() != b.len() || a.len() > 0 {
+        if a.len() > b.len() {
+            let (label, rest) = split_first(a);
+            a = rest;
+            x = Some(label);
+        } else if a.len() < b.len() {
+            let (label, rest) = split_first(b);
+            b = rest;
+            y = Some(label);
+        } else if found_same(a, b, &mut tries) {
+            return order_of_last(x, y);
+        } else {
+            let (p, a_rest) = split_first(a);
+            let (q, b_rest) = split_first(b);
+            a = a_rest;
+            b = b_rest;
+            if differ(&p, &q) {
+                x = Some(p);
+                y = Some(q);
+            }
+        }
+    }
+    order_of_last(x, y)
 }
 
 /// The canonical order of two names (RFC 4034, 6.1): `answer` becomes -1, 0 or 1. 9 where one is no name.
@@ -46,10 +149,10 @@ pub extern "C" fn dnsnames_compare(left: &[u8], right: &[u8], answer: &mut i32) 
     ensures order { result ≡ 0 → answer.new ≡ order_number (name_order left.now right.now) }
     ensures err { result ≢ 0 → (result ≡ 9) × (answer.new ≡ answer.old) }
 {
-    let (Ok(left), Ok(right)) = (Name::from_slice(left), Name::from_slice(right)) else {
+    if !is_name(left) || !is_name(right) {
         return 9;
-    };
-    *answer = number_of_order(order_names(&left, &right));
+    }
+    *answer = number_of_order(order_octets(left, right));
     0
 }
 
@@ -69,19 +172,25 @@ pub extern "C" fn dnsnames_ends_with(name: &[u8], suffix: &[u8], ends: &mut u32)
     0
 }
 
-/// The canonical form of a name, A to Z as a to z (RFC 4034, 6.2). `None` where the octets are no name.
-fn canonical_form(octets: &[u8]) -> Option<ArrayVec<u8, 255>>
-    ensures named { IsSome result ↔ IsAbsoluteWire octets.now }
-    ensures some { IfSome result (λ form. form.items ≡ canonical_name_octets octets.now) }
+/// Puts octets at the beginning of a buffer, A to Z as a to z.
+#[inline(always)]
+fn put_lowercase(octets: &[u8], form: &mut [u8; 255])
+    requires { length octets.now ≤ 255 }
+    ensures { take (length octets.now) form.new ≡ lowercase octets.now }
 {
-    let Ok(name) = Name::from_slice(octets) else {
-        return None;
-    };
-    let mut form = ArrayVec::<u8, 255>::new();
-    let Ok(()) = compose_canonical_name(&name, &mut form) else {
-        unreachable!();
-    };
-    Some(form)
+    for i in 0..octets.len() {
+        form[i] = octets[i].to_ascii_lowercase();
+    }
+}
+
+/// Puts the canonical form of a name, A to Z as a to z (RFC 4034, 6.2), at the beginning of a buffer.
+#[tactic(auto, using(crate::proofs::NameOctets::name_short))]
+#[inline(always)]
+fn put_canonical(name: &[u8], form: &mut [u8; 255])
+    requires { IsAbsoluteWire name.now }
+    ensures { take (length name.now) form.new ≡ canonical_name_octets name.now }
+{
+    put_lowercase(name, form);
 }
 
 /// The hash of a name under a key: the SipHash-2-4 of its canonical form, so equal names have one hash. Strangers who
@@ -92,10 +201,12 @@ pub extern "C" fn dnsnames_hash(key: &[u8; 16], name: &[u8], hash: &mut u64) -> 
     ensures hash { result ≡ 0 → hash.new ≡ siphash key.now (canonical_name_octets name.now) }
     ensures err { result ≢ 0 → (result ≡ 9) × (hash.new ≡ hash.old) }
 {
-    let Some(form) = canonical_form(name) else {
+    if !is_name(name) {
         return 9;
-    };
-    *hash = siphash_2_4(key, form.as_slice());
+    }
+    let mut form = [0; 255];
+    put_canonical(name, &mut form);
+    *hash = siphash_2_4(key, &form[..name.len()]);
     0
 }
 
@@ -105,8 +216,10 @@ pub extern "C" fn dnsnames_hash(key: &[u8; 16], name: &[u8], hash: &mut u64) -> 
 pub extern "C" fn dnsnames_lower(name: &[u8], buffer: &mut [u8], length: &mut usize) -> u32
     ensures { GivesCanonicalForm name.now result buffer.old buffer.new length.old length.new }
 {
-    let Some(form) = canonical_form(name) else {
+    if !is_name(name) {
         return 9;
-    };
-    give(form.as_slice(), buffer, length)
+    }
+    let mut form = [0; 255];
+    put_canonical(name, &mut form);
+    give(&form[..name.len()], buffer, length)
 }

@@ -14,6 +14,7 @@ mod field;
 mod label;
 mod message;
 mod mnemonic;
+mod name;
 mod named_option;
 mod opt;
 mod plan;

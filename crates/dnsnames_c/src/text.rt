@@ -1,19 +1,25 @@
 //! Names as text.
-ghost use Rattle.std.specs.Prelude.{◌≡◌, IfOk, IfErr};
+ghost use Rattle.std.specs.Prelude.{◌≡◌, ◌↔◌, ◌∷◌, ◌==◌, ◌≤◌, ℕ, List, [], length, take, IsTrue, OnOk, IfErr};
+ghost use Rattle.std.specs.List.{AllByRecursion, flat_map, count_by};
 ghost use Rattle.std.specs.Str.{chars};
+ghost use Rattle.domain_label.specs.Text.{with_dot, or_dot, text_with_final_dot};
+ghost use Rattle.domain_label.specs.Wire.{IsAbsoluteWire, labels_in, wire};
+ghost use Rattle.domain_list.specs.Dotted.{dotted, IsShown};
 ghost use Rattle.domain_builder.specs.TextErrors.{label_fault, presentation_fault};
 ghost use Rattle.domain_builder.specs.TextGrammar.{IsTextOfName};
-ghost use Rattle.domain_name.specs.Names.{name_labels};
-ghost use Rattle.dnsnames_c.specs.Answers.{HasFaultNumber, ReadsText, GivesNameText, DropsFinalDot};
+ghost use Rattle.dnsnames_c.specs.Answers.{HasFaultNumber, ReadsText, Gives, GivesNameText, DropsFinalDot, name_text};
 ghost use Rattle.dnsnames_c.specs.Status.{text_number};
 
+use crate::name::is_name;
 use crate::put::give;
 use arrayvec::ArrayVec;
+use domain_builder::text::absolute_into_array;
 use domain_builder::{FromStrError, PresentationErrorKind};
+use domain_flat::NameIter;
+use domain_flat::iter::first_label;
 use domain_label::LabelFromStrErrorKind;
 use domain_label::scan::SymbolCharsError;
 use domain_list::dotted::push_dotted;
-use domain_name::Name;
 use std::str::from_utf8;
 
 /// The number of a fault of a label.
@@ -40,13 +46,16 @@ fn number_of(kind: PresentationErrorKind) -> u32
     }
 }
 
-/// The name that a text spells, or the number of its fault.
-fn name_of(text: &str) -> Result<Name<ArrayVec<u8, 255>>, u32>
-    ensures name { IfOk result (λ name. IsTextOfName (chars text.now) (name_labels name)) }
+/// Puts the name that a text spells into an empty array, or returns the number of the text's fault.
+#[inline(always)]
+fn read_text(octets: &mut ArrayVec<u8, 255>, text: &str) -> Result<(), u32>
+    requires empty { octets.old.items ≡ [] }
+    ensures name { OnOk result (IsTextOfName (chars text.now) (labels_in octets.new.items)) }
+    ensures wire { OnOk result (octets.new.items ≡ wire (labels_in octets.new.items)) }
     ensures fault { IfErr result (λ number. HasFaultNumber (chars text.now) number) }
 {
-    match text.parse::<Name<ArrayVec<u8, 255>>>() {
-        Ok(name) => Ok(name),
+    match absolute_into_array(octets, text) {
+        Ok(()) => Ok(()),
         Err(FromStrError::Presentation(e)) => Err(number_of(e.kind())),
         Err(FromStrError::ShortBuf) => unreachable!(),
     }
@@ -66,10 +75,80 @@ pub extern "C" fn dnsnames_from_text(text: &[u8], buffer: &mut [u8], length: &mu
     let Ok(text) = from_utf8(text) else {
         return 12;
     };
-    match name_of(text) {
-        Ok(name) => give(name.as_slice(), buffer, length),
+    let mut octets = ArrayVec::new();
+    match read_text(&mut octets, text) {
+        Ok(()) => give(octets.as_slice(), buffer, length),
         Err(number) => number,
     }
+}
+
+/// Whether an octet is printed, and no space or backslash.
+#[inline(always)]
+fn is_shown(octet: u8) -> bool
+    ensures { IsTrue result ↔ IsShown octet }
+{
+    (octet > b' ') & (octet < 0x7f) & (octet != b'\\')
+}
+
+/// Whether octets are printed, none of them a space or a backslash, and so many of them dots. All are looked at, so
+/// that many are tested at once.
+#[inline(always)]
+fn has_dots(text: &[u8], dots: u8) -> bool
+    requires { length text.now ≤ 255 }
+    ensures shown { IsTrue result → AllByRecursion IsShown text.now }
+    ensures count { IsTrue result → count_by (λ x. x == 46) text.now ≡ dots }
+{
+    let mut shown = true;
+    let mut found: u8 = 0;
+    for octet in text {
+        shown &= is_shown(*octet);
+        if *octet == b'.' {
+            found += 1;
+        }
+    }
+    shown && found == dots
+}
+
+/// Puts a dot in place of each length octet of a name that lies at the beginning of a buffer, and returns how many
+/// labels it has.
+#[inline(always)]
+fn put_dots(name: &[u8], octets: &mut [u8; 255]) -> u8
+    requires name { IsAbsoluteWire name.now }
+    requires there { take (length name.now) octets.old ≡ name.now }
+    ensures dots { take (length name.now) octets.new ≡ dotted (labels_in name.now) }
+    ensures count { result ≡ length (labels_in name.now) }
+{
+    let mut rest = name;
+    let mut at = 0;
+    let mut count = 0;
+    'labels: while let Some((label, after)) = first_label(rest) {
+        octets[at] = b'.';
+        at += 1 + label.len();
+        count += 1;
+        rest = after;
+    }
+    count
+}
+
+/// Puts a name's text with a final dot, and a dot before it, at the beginning of a buffer. False where an octet is
+/// escaped.
+#[inline(always)]
+fn put_unescaped(name: &[u8], octets: &mut [u8; 255]) -> bool
+    requires { IsAbsoluteWire name.now }
+    ensures { IsTrue result →
+        take (length name.now) octets.new ≡ 46 ∷ flat_map with_dot (labels_in name.now) }
+{
+    octets[..name.len()].copy_from_slice(name);
+    let labels = put_dots(name, octets);
+    has_dots(&octets[..name.len()], labels)
+}
+
+/// What follows the dot at the beginning, or that dot where nothing does.
+#[inline(always)]
+fn after_dot(text: &[u8]) -> &[u8]
+    ensures { (s : List ℕ) → text.now ≡ 46 ∷ s → result.now ≡ or_dot s }
+{
+    if text.len() > 1 { &text[1..] } else { text }
 }
 
 /// The text of an absolute name without its final dot, which the root keeps.
@@ -81,6 +160,33 @@ fn without_final_dot<'a>(text: &'a [u8]) -> &'a [u8]
     } else {
         text
     }
+}
+
+/// Gives the text of an absolute name, of which this is the one with a final dot.
+#[inline(always)]
+fn give_text(whole: &[u8], final_dot: u32, buffer: &mut [u8], length: &mut usize) -> u32
+    ensures { (name : List ℕ) → IsAbsoluteWire name →
+        whole.now ≡ text_with_final_dot (labels_in name) →
+        Gives (name_text final_dot (labels_in name)) result buffer.old buffer.new length.new }
+{
+    if final_dot == 0 {
+        give(without_final_dot(whole), buffer, length)
+    } else {
+        give(whole, buffer, length)
+    }
+}
+
+/// The text of a name of which some octets are escaped. It is called and not inlined, so that other names need no
+/// room for its text.
+#[inline(never)]
+fn give_escaped(name: &[u8], final_dot: u32, buffer: &mut [u8], length: &mut usize) -> u32
+    requires { IsAbsoluteWire name.now }
+    ensures { Gives (name_text final_dot (labels_in name.now)) result buffer.old buffer.new
+        length.new }
+{
+    let mut text = ArrayVec::<u8, 1020>::new();
+    push_dotted(NameIter::new(name), &mut text);
+    give_text(text.as_slice(), final_dot, buffer, length)
 }
 
 /// The text of a name (RFC 1035, 5.1) into the buffer; `length` becomes its size, at most 1,004. Labels have dots
@@ -95,14 +201,13 @@ pub extern "C" fn dnsnames_to_text(
 ) -> u32
     ensures { GivesNameText name.now final_dot result buffer.old buffer.new length.old length.new }
 {
-    let Ok(name) = Name::from_slice(name) else {
+    if !is_name(name) {
         return 9;
-    };
-    let mut text = ArrayVec::<u8, 1020>::new();
-    push_dotted(name.iter(), &mut text);
-    if final_dot == 0 {
-        give(without_final_dot(text.as_slice()), buffer, length)
-    } else {
-        give(text.as_slice(), buffer, length)
     }
+    let mut octets = [0; 255];
+    if put_unescaped(name, &mut octets) {
+        let text = after_dot(&octets[..name.len()]);
+        return give_text(text, final_dot, buffer, length);
+    }
+    give_escaped(name, final_dot, buffer, length)
 }
