@@ -40,7 +40,7 @@ fn has_label(name: &[u8], label: &[u8]) -> bool {
     label_of_hash(&hash).as_slice() == label && hash_of_label(label) == Some(hash)
 }
 
-/// The hashes of the zone's names, and of names that don't exist (RFC 5155, A, B.1, B.4 and B.5).
+/// The hashes of the zone's names, and of names that don't exist (RFC 5155, A, B.1, B.3 and B.4).
 #[test]
 fn hashes_of_the_zone(rt: HostRuntime) {
     assert!(rt; has_label(b"\x07example\x00", b"0p9mhaveqvm6t7vbl5lop2u3t2rp3tom"));
@@ -175,7 +175,7 @@ fn no_hash(rt: HostRuntime) {
     assert_eq!(rt; hash_of_label(b"t644ebqk9bibcna874givr6joj62mlhw"), None);
 }
 
-/// What records of the zone match and cover: names of B.1 and B.4, and the last record.
+/// What records of the zone match and cover: names of B.1 and B.3, and the last record.
 #[test]
 fn matching_and_covering(rt: HostRuntime) {
     let apex = hash_of(b"\x07example\x00");
@@ -272,7 +272,7 @@ fn proves_none(records: &[HashedRecord<'_>], name: &[u8]) -> bool {
     }
 }
 
-/// The closest enclosers of B.1, B.4 and B.6, and the records of B.2 and B.5, which prove none.
+/// The closest enclosers of B.1, B.3 and B.5, and records that prove none, such as that of B.4.
 #[test]
 fn enclosers(rt: HostRuntime) {
     let ns1 = hash_in(b"2t7b4g4vsa5smi47k61mv5bv1a22bojr");
