@@ -152,10 +152,13 @@ module _ (z : Zone) (n : List (List ℕ)) (c : ℕ) where
 
   tells_had : {P : Type 0} → ∥ P ∥₁ → (P → TellsCut z n c) → TellsCut z n c
   tells_had t from = elim (dec_less c (length z.rrsets)) [
-    | inl l ↦ inl (l, λ d. (
-      first_had z n (slice_index_or z.rrsets c d).owner t (λ p. (told (from p) l d).0),
-      had t (dec_number (slice_index_or z.rrsets c d).rtype NS) (λ p. (told (from p) l d).1),
-    ))
+    | inl l ↦ inl (
+      l,
+      λ d. (
+        first_had z n (slice_index_or z.rrsets c d).owner t (λ p. (told (from p) l d).0),
+        had t (dec_number (slice_index_or z.rrsets c d).rtype NS) (λ p. (told (from p) l d).1),
+      ),
+    )
     | inr m ↦ inr (omega (arith, m), λ a k g. not_there t (λ p. untold (from p) m a k g))
   ]
 

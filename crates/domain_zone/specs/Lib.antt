@@ -6,6 +6,7 @@ pub mod ErrorText
 pub mod Faults
 pub mod Headers
 pub mod Kept
+pub mod Missing
 pub mod Neighbours
 pub mod Outcomes
 pub mod Records

@@ -95,7 +95,12 @@ fn is_key<'a>(set: &'a Rrset<Owner>, owner: &'a Owner, rtype: u16) -> bool
 }
 
 /// Whether the RRset at an index is of an owner and a type.
-pub(crate) fn is_taken<'a>(records: &'a ZoneRecords<Owner>, at: usize, owner: &'a Owner, rtype: u16) -> bool
+pub(crate) fn is_taken<'a>(
+    records: &'a ZoneRecords<Owner>,
+    at: usize,
+    owner: &'a Owner,
+    rtype: u16,
+) -> bool
     ensures { IsTrue result ↔ ((at < length (records_view records.now).rrsets)
         × ((d : RRset) → SameLabels (slice_index_or (records_view records.now).rrsets at d).owner
         (name_labels owner.now)

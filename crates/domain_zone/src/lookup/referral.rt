@@ -28,11 +28,13 @@ fn first_cut<'a>(
         × IsAt (records_view records.now) (name_labels s.now.owner) NS (set_view s.now)) }
 {
     let set = records.sets.get(near)?;
-    let cut = records.sets.get(set.cut)?;
-    if !ends_with_labels(name, &cut.owner) {
+    let Some(first) = records.sets.get(set.cut) else {
+        return None;
+    };
+    if !ends_with_labels(name, &first.owner) {
         return None;
     }
-    Some(cut)
+    Some(first)
 }
 
 /// The name servers that a question is referred to.

@@ -20,7 +20,7 @@ returns-then-is_above_at c =
     let at = view_at (rrset name_labels) xs i s n is in
     let a = c.is_above_at.ensures.0 c.if-is_above_at.true in
     λ d. subst (λ (r : RRset). TellsCut z r.owner c.args.above) (sym (at d))
-        (under z c.requires.zone c.requires.sorted c.order_laws.ensures.apart c.order_laws.ensures.first c.order_laws.ensures.together i c.requires.within c.args.above c.requires.above (rrset name_labels s) at a.0 a.1)
+    (under z c.requires.zone c.requires.sorted c.order_laws.ensures.apart c.order_laws.ensures.first c.order_laws.ensures.together i c.requires.within c.args.above c.requires.above (rrset name_labels s) at a.0 a.1)
 
 pub returns-then-eq_names : goal.returns-then-eq_names
 returns-then-eq_names c =
@@ -33,7 +33,7 @@ returns-then-eq_names c =
     let is : s ≡ get_or xs i s = c.index-sets-index.is ∙ ap (λ l. get_or l i s) same in
     let at = view_at (rrset name_labels) xs i s n is in
     let free = at_apex z c.requires.zone c.requires.sorted c.order_laws.ensures.apart c.order_laws.ensures.first c.order_laws.ensures.together i c.requires.within c.args.above c.requires.above (rrset name_labels s) at
-        (λ a. true≢false (sym (c.is_above_at.ensures.1 a) ∙ c.if-is_above_at.false)) (c.eq_names.ensures.0 c.if-eq_names.true) in
+    (λ a. true≢false (sym (c.is_above_at.ensures.1 a) ∙ c.if-is_above_at.false)) (c.eq_names.ensures.0 c.if-eq_names.true) in
     λ d. inr (omega (arith, length-map xs (rrset name_labels), ap length same), subst (λ (r : RRset). HasNoCut z r.owner) (sym (at d)) free)
 
 pub returns-then-set-eq2 : goal.returns-then-set-eq2
@@ -47,8 +47,8 @@ returns-then-set-eq2 c =
     let is : s ≡ get_or xs i s = c.index-sets-index.is ∙ ap (λ l. get_or l i s) same in
     let at = view_at (rrset name_labels) xs i s n is in
     let cut = own z c.requires.zone c.requires.sorted c.order_laws.ensures.apart c.order_laws.ensures.first c.order_laws.ensures.together i c.requires.within c.args.above c.requires.above (rrset name_labels s) at
-        (λ a. true≢false (sym (c.is_above_at.ensures.1 a) ∙ c.if-is_above_at.false))
-        i c.requires.within (rrset name_labels s) at refl c.if-set-eq2.true (λ a. true≢false (sym (c.eq_names.ensures.1 a) ∙ c.if-eq_names.false)) in
+    (λ a. true≢false (sym (c.is_above_at.ensures.1 a) ∙ c.if-is_above_at.false))
+    i c.requires.within (rrset name_labels s) at refl c.if-set-eq2.true (λ a. true≢false (sym (c.eq_names.ensures.1 a) ∙ c.if-eq_names.false)) in
     λ d. subst (λ (r : RRset). TellsCut z r.owner i) (sym (at d)) cut
 
 pub returns-then-is_taken : goal.returns-then-is_taken
@@ -64,8 +64,8 @@ returns-then-is_taken c =
     let next = c.is_taken.ensures.0 c.if-is_taken.true in
     let r = slice_index_or z.rrsets (i + 1) (rrset name_labels s) in
     let cut = own z c.requires.zone c.requires.sorted c.order_laws.ensures.apart c.order_laws.ensures.first c.order_laws.ensures.together i c.requires.within c.args.above c.requires.above (rrset name_labels s) at
-        (λ a. true≢false (sym (c.is_above_at.ensures.1 a) ∙ c.if-is_above_at.false))
-        (i + 1) next.0 r (λ d. get_or_default z.rrsets (i + 1) d (rrset name_labels s) next.0) (next.1 (rrset name_labels s)).0 (next.1 (rrset name_labels s)).1 (λ a. true≢false (sym (c.eq_names.ensures.1 a) ∙ c.if-eq_names.false)) in
+    (λ a. true≢false (sym (c.is_above_at.ensures.1 a) ∙ c.if-is_above_at.false))
+    (i + 1) next.0 r (λ d. get_or_default z.rrsets (i + 1) d (rrset name_labels s) next.0) (next.1 (rrset name_labels s)).0 (next.1 (rrset name_labels s)).1 (λ a. true≢false (sym (c.eq_names.ensures.1 a) ∙ c.if-eq_names.false)) in
     λ d. subst (λ (r : RRset). TellsCut z r.owner (i + 1)) (sym (at d)) cut
 
 pub returns : goal.returns
@@ -79,6 +79,6 @@ returns c =
     let is : s ≡ get_or xs i s = c.index-sets-index.is ∙ ap (λ l. get_or l i s) same in
     let at = view_at (rrset name_labels) xs i s n is in
     let free = none z c.requires.zone c.requires.sorted c.order_laws.ensures.apart c.order_laws.ensures.first c.order_laws.ensures.together i c.requires.within c.args.above c.requires.above (rrset name_labels s) at
-        (λ a. true≢false (sym (c.is_above_at.ensures.1 a) ∙ c.if-is_above_at.false))
-        c.if-set-eq2.false (λ a. true≢false (sym (c.is_taken.ensures.1 a) ∙ c.if-is_taken.false)) in
+    (λ a. true≢false (sym (c.is_above_at.ensures.1 a) ∙ c.if-is_above_at.false))
+    c.if-set-eq2.false (λ a. true≢false (sym (c.is_taken.ensures.1 a) ∙ c.if-is_taken.false)) in
     λ d. inr (omega (arith, length-map xs (rrset name_labels), ap length same), subst (λ (r : RRset). HasNoCut z r.owner) (sym (at d)) free)

@@ -19,7 +19,7 @@ returns-then-exists c =
     let b = c.is_below_at-exists.ensures.0 c.if-exists.true in (
       (inside, c.in_default.ensures),
       exists_below z c.place_of-at.result (name_labels c.args.name.now) inside c.requires.zone.soa.0 b.0 b.1,
-      c.reply_at.ensures,
+      c.reply_from.ensures,
     )
 
 pub lookup_nonexistent-requires-clause-ours : goal.lookup_nonexistent-requires-clause-ours
@@ -29,4 +29,4 @@ pub lookup_nonexistent-requires-clause-missing : goal.lookup_nonexistent-require
 lookup_nonexistent-requires-clause-missing c =
     let z = zone_of name_labels c.args.records.now in
     λ e. true≢false (sym (c.is_below_at-exists.ensures.1
-        (below_from z (name_labels c.args.name.now) c.place_of-at.result c.order_laws.ensures.first c.order_laws.ensures.together c.requires.sorted c.place_of-at.ensures.place e)) ∙ c.if-exists.false)
+    (below_from z (name_labels c.args.name.now) c.place_of-at.result c.order_laws.ensures.first c.order_laws.ensures.together c.requires.sorted c.place_of-at.ensures.place e)) ∙ c.if-exists.false)
