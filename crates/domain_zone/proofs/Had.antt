@@ -1,5 +1,5 @@
 -- What a zone keeps as a ghost field can be had again, since each part of it can be decided or is one of a kind.
-use Rattle.std.proofs.Common.{◌≡◌, ℕ, ◌<◌, ◌⊎◌, List, [], ◌∷◌, length, slice_index_or, refl, inl, inr, ⊎_elim, arith}
+use Rattle.std.proofs.Common.{◌≡◌, ℕ, ◌<◌, ◌≤◌, ◌⊎◌, List, [], ◌∷◌, length, get_or, slice_index_or, refl, inl, inr, ⊎_elim, arith}
 use Rattle.std.specs.Coded.{×_prop, Coded-set, coded_list, coded_ℕ}
 use Rattle.std.specs.Cmp.Lexicographic.{slice_cmp}
 use Rattle.std.specs.List.{All}
@@ -13,12 +13,19 @@ use Rattle.domain_label.specs.Wire.{IsAbsoluteName}
 use Rattle.domain_label.proofs.WireLaws.{IsAbsoluteWire_prop}
 use Rattle.domain_list.specs.Ancestors.{OrderDecidesEquality}
 use Rattle.domain_list.specs.Order.{canonical_order, SameLabels}
+use Rattle.octseq.specs.declared.octets.Octets.{Ghosts}
+use Rattle.domain_name.specs.Names.{name_labels}
+use Rattle.domain_name.specs.declared.absolute.Name.{Name}
+use Rattle.domain_zone.specs.Cuts.{TellsCut, TellsCuts}
 use Rattle.domain_zone.specs.Faults.{IsCanonical}
+use Rattle.domain_zone.specs.Records.{records_view}
 use Rattle.domain_zone.proofs.Good.{apart_from}
 use Rattle.domain_zone_laws.specs.Sorted.{ComesBefore, IsSorted}
-use Rattle.domain_zone_laws.specs.Zone.{Zone, RRset, IsZone, IsAt, IsDataType, IsOneName, MayBeBesideCname, NS, CNAME, SOA, KEY, OPT, RRSIG, NSEC, source_of_synthesis}
+use Rattle.domain_zone_laws.specs.Zone.{Zone, RRset, IsZone, IsAt, HasNoCut, IsFirstCut, IsDataType, IsOneName, MayBeBesideCname, NS, CNAME, SOA, KEY, OPT, RRSIG, NSEC, source_of_synthesis}
 use Rattle.domain_zone_laws.proofs.Deciding.{Decided, dec_number, dec_same, dec_ends, dec_and, dec_some}
-use Rattle.domain_zone_laws.proofs.Nodes.{dec_has, dec_not}
+use Rattle.domain_zone_laws.proofs.Ending.{ends_same}
+use Rattle.domain_zone_laws.proofs.Nodes.{dec_has, dec_not, cut_same, first_cut, one_cut}
+use Rattle.domain_zone_laws.specs.declared.zone.ZoneRecords.{ZoneRecords}
 
 -- ---- decisions
 
@@ -123,3 +130,37 @@ zone_had z decides o names t = record {
   dname_at_cut = λ n d c. not_there t (λ w. w.dname_at_cut n d c);
   wildcards = λ e u h k. had t (dec_same (source_of_synthesis e) z.apex) (λ w. w.wildcards e u h k);
 }
+
+-- ---- what each RRset tells of cuts
+
+first_had : {P : Type 0} (z : Zone) (n c : List (List ℕ)) → ∥ P ∥₁ → (P → IsFirstCut z n c) → IsFirstCut z n c
+first_had z n c t from = elim (first_cut z n) [
+  | inl f ↦
+      let e : SameLabels f.0 c = had t (dec_same f.0 c) (λ p. one_cut z n f.0 c f.1 (from p)) in
+      (cut_same z f.0 c e f.1.0, ends_same n f.0 c e f.1.1, λ d k g. ends_same d f.0 c e (f.1.2 d k g))
+  | inr none ↦ absurd (not_there t (λ p. none c (from p).0 (from p).1))
+]
+
+module _ (z : Zone) (n : List (List ℕ)) (c : ℕ) where
+  told : TellsCut z n c → c < length z.rrsets → (d : RRset) → IsFirstCut z n (slice_index_or z.rrsets c d).owner × ((slice_index_or z.rrsets c d).rtype ≡ NS)
+  told (inl h) l = h.1
+  told (inr h) l = absurd (omega (arith, l, h.0))
+
+  untold : TellsCut z n c → (c < length z.rrsets → ⊥) → HasNoCut z n
+  untold (inl h) m = absurd (m h.0)
+  untold (inr h) m = h.1
+
+  tells_had : {P : Type 0} → ∥ P ∥₁ → (P → TellsCut z n c) → TellsCut z n c
+  tells_had t from = elim (dec_less c (length z.rrsets)) [
+    | inl l ↦ inl (
+      l,
+      λ d. (
+        first_had z n (slice_index_or z.rrsets c d).owner t (λ p. (told (from p) l d).0),
+        had t (dec_number (slice_index_or z.rrsets c d).rtype NS) (λ p. (told (from p) l d).1),
+      ),
+    )
+    | inr m ↦ inr (omega (arith, m), λ a k g. not_there t (λ p. untold (from p) m a k g))
+  ]
+
+pub cuts_had : {O : Type 0} {g : Ghosts O} (z : ZoneRecords (Name O g)) → ∥ TellsCuts z ∥₁ → TellsCuts z
+cuts_had z t = λ k d l. tells_had (records_view z) (name_labels (get_or z.sets.items k d).owner) (get_or z.sets.items k d).cut t (λ h. h k d l)

@@ -1,13 +1,16 @@
 pub mod Adding
 pub mod Ascending
 pub mod Chains
-pub mod Cutting
 pub mod Enclosing
+pub mod FirstCuts
 pub mod Good
 pub mod Had
 pub mod Leading
 pub mod Leaves
+pub mod Near
 pub mod Neighbours
 pub mod Owned
+pub mod SettingCuts
 pub mod Sources
 pub mod Substituting
+pub mod Telling

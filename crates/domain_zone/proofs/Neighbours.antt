@@ -4,13 +4,23 @@ use Rattle.std.specs.List.{Contains}
 use Rattle.std.proofs.lemmas.List.{get_or_default}
 use Rattle.std.proofs.lemmas.List.Elements.{All-contains, Contains-get_or}
 use Rattle.domain_label.specs.Wire.{IsAbsoluteName}
-use Rattle.domain_list.specs.Ancestors.{DescendantsAreAdjacent}
+use Rattle.domain_list.specs.Ancestors.{DescendantsAreAdjacent, ParentIsFirst}
 use Rattle.domain_list.specs.Ends.{EndsWith}
 use Rattle.domain_zone.specs.Neighbours.{IsBeside}
 use Rattle.domain_zone_laws.specs.Sorted.{IsSorted, IsPlace}
 use Rattle.domain_zone_laws.specs.Zone.{Zone, RRset, IsZone, HasType, Exists}
 use Rattle.domain_zone_laws.proofs.Ending.{same_ends, same_then}
 use Rattle.domain_zone_laws.proofs.Neighbours.{tell_encloser}
+use Rattle.domain_zone_laws.proofs.Places.{reaches_below}
+
+-- what an RRset is at or below exists
+pub exists_below : (z : Zone) (i : ℕ) (a : List (List ℕ)) → EndsWith a z.apex → (d : RRset) → i < length z.rrsets → ((d : RRset) → EndsWith (slice_index_or z.rrsets i d).owner a) → Exists z a
+exists_below z i a inside d h g = (inside, (slice_index_or z.rrsets i d, Contains-get_or z.rrsets i d h, g d))
+
+-- and what exists has one at its place
+pub below_from : (z : Zone) (a : List (List ℕ)) (i : ℕ) → ParentIsFirst → DescendantsAreAdjacent → IsSorted z → IsPlace z a 0 i → Exists z a
+    → (i < length z.rrsets) × ((d : RRset) → EndsWith (slice_index_or z.rrsets i d).owner a)
+below_from z a i first together o p x = reaches_below z o a first together i p x.1.0 x.1.1 x.1.2
 
 -- what is beside exists
 pub exists_from : (z : Zone) (i : ℕ) (a : List (List ℕ)) (d : RRset) → IsBeside z i a → Exists z a

@@ -1,10 +1,12 @@
 pub mod Builders
 pub mod Building
+pub mod Cuts
 pub mod Entries
 pub mod ErrorText
 pub mod Faults
 pub mod Headers
 pub mod Kept
+pub mod Missing
 pub mod Neighbours
 pub mod Outcomes
 pub mod Records

@@ -1,9 +1,11 @@
 //! A zone that is kept.
+ghost use Rattle.domain_zone.specs.Cuts.{TellsCuts};
 ghost use Rattle.domain_zone.specs.Faults.{IsCanonical};
 ghost use Rattle.domain_zone.specs.Records.{records_view};
 ghost use Rattle.domain_zone_laws.specs.Zone.{IsZone};
 
 use crate::checking::find_fault;
+use crate::cuts::with_cuts;
 use crate::fault::ZoneFault;
 use crate::names::Owner;
 use domain_header::Class;
@@ -14,13 +16,15 @@ use domain_zone_laws::zone::{Rrset, ZoneRecords};
 
 /// A zone: an apex and the RRsets at and below it, in canonical order (RFC 1034, 4.2.1; RFC 4034, 6.1).
 ///
-/// That the records are a zone is tested once, when it is made. So what reads it has nothing to ask for.
+/// That the records are a zone is tested once, when it is made, and so is where it is cut. So what reads it has nothing
+/// to ask for.
 #[derive(Drop)]
 pub struct Zone {
     class: Class,
     records: ZoneRecords<Owner>,
     ghost canonical: { ∥ IsCanonical (records_view records) ∥₁ },
     ghost zone: { ∥ IsZone (records_view records) ∥₁ },
+    ghost cuts: { ∥ TellsCuts records ∥₁ },
 }
 
 impl Zone {
@@ -46,17 +50,19 @@ impl Zone {
         ensures class { IfOk result (λ zone. zone_class zone ≡ class) }
         ensures err { IfErr result (HasFault (records_view records)) }
     {
-        match find_fault(&records) {
-            Some(fault) => Err(fault),
-            None => Ok(Zone { class, records }),
+        if let Some(fault) = find_fault(&records) {
+            return Err(fault);
         }
+        let records = with_cuts(records);
+        Ok(Zone { class, records })
     }
 
-    /// The apex and the RRsets.
+    /// The apex and the RRsets. Each RRset has in `cut` the index of the one that is the first cut over it.
     pub fn records(&self) -> &ZoneRecords<Owner>
         ensures view { records_view result.now ≡ zone_view self.now }
         ensures zone { IsZone (records_view result.now) }
         ensures canonical { IsCanonical (records_view result.now) }
+        ensures cuts { TellsCuts result.now }
     {
         &self.records
     }

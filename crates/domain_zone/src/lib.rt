@@ -5,6 +5,7 @@ mod alone;
 mod beside;
 mod building;
 mod checking;
+mod cuts;
 mod entry;
 mod fault;
 mod kept;

@@ -1,7 +1,10 @@
 //! Questions to a zone.
-ghost use Rattle.std.specs.Prelude.{◌≡◌, ℕ, List};
-ghost use Rattle.domain_name.specs.Names.{name_labels};
+ghost use Rattle.std.specs.Prelude.{◌≡◌, ◌-◌, ◌++◌, IsTrue, MatchOption, ℕ, List};
+ghost use Rattle.domain_list.specs.ChainParts.{left_part, right_part};
+ghost use Rattle.domain_name.specs.Names.{name_labels, relative_labels};
+ghost use Rattle.domain_zone.specs.Cuts.{TellsCuts};
 ghost use Rattle.domain_zone.specs.Kept.{zone_view};
+ghost use Rattle.domain_zone.specs.Missing.{IsMissing, IsSourceFor};
 ghost use Rattle.domain_zone.specs.Outcomes.{outcome_of};
 ghost use Rattle.domain_zone.specs.Records.{records_view};
 ghost use Rattle.domain_zone_laws.specs.Answers.{Answers};
@@ -14,16 +17,27 @@ mod outcome;
 mod referral;
 
 use crate::kept::Zone;
-use crate::lookup::encloser::is_beside;
+use crate::lookup::encloser::{is_below_at, source_at};
 use crate::lookup::nonexistent::lookup_nonexistent;
 use crate::names::Owner;
 use domain_list::laws::order_laws;
 use domain_name::Name;
 use domain_zone_laws::find::place_of;
-use domain_zone_laws::reply::reply_at;
+use domain_zone_laws::reply::reply_from;
 use domain_zone_laws::zone::ZoneRecords;
 pub use encloser::{Wildcard, source_of_synthesis};
 pub use outcome::{Answer, Substitution};
+
+/// Which RRset tells the cuts over a name: the one at its place where it exists, else the one before that.
+fn near(place: usize, is_there: bool) -> usize
+    ensures exists { IsTrue is_there → result ≡ place }
+    ensures missing { (IsTrue is_there → ⊥) → result ≡ place - 1 }
+{
+    if is_there {
+        return place;
+    }
+    place.saturating_sub(1)
+}
 
 /// What the records of a zone answer.
 fn lookup_records<'a>(
@@ -33,6 +47,7 @@ fn lookup_records<'a>(
 ) -> Answer<'a>
     requires zone { IsZone (records_view records.now) }
     requires sorted { IsSorted (records_view records.now) }
+    requires cuts { TellsCuts records.now }
     ensures { Answers (records_view records.now) (name_labels name.now) rtype (outcome_of result) }
 {
     order_laws();
@@ -40,11 +55,12 @@ fn lookup_records<'a>(
         return Answer::OutOfZone;
     }
     let at = place_of(records, name, 0);
-    if let Some(cut) = referral::referral(records, at, name, rtype) {
+    let exists = is_below_at(records, at, name);
+    if let Some(cut) = referral::referral(records, near(at, exists), name, rtype) {
         return Answer::Referral(cut);
     }
-    if is_beside(records, at, name) {
-        return Answer::Found(reply_at(records, name, rtype));
+    if exists {
+        return Answer::Found(reply_from(records, at, name, rtype));
     }
     lookup_nonexistent(records, at, name, rtype)
 }
@@ -52,12 +68,34 @@ fn lookup_records<'a>(
 impl Zone {
     /// Returns what the zone answers to a question for records of a type at a name (RFC 1034, 4.3.2).
     ///
-    /// The type may be ANY, 255. It allocates nothing. The RRsets are searched by halves: once for the name, which
-    /// also gives the closest encloser; for name servers at each name above it that exists; and a few times for what
-    /// is found.
+    /// The type may be ANY, 255. It allocates nothing. The RRsets are searched by halves at most twice: once for the
+    /// name, and once more for a wildcard where the name doesn't exist.
     pub fn lookup<'a>(&'a self, name: &'a Name<&'a [u8]>, rtype: u16) -> Answer<'a>
         ensures { Answers (zone_view self.now) (name_labels name.now) rtype (outcome_of result) }
     {
         lookup_records(self.records(), name, rtype)
+    }
+
+    /// Returns the source of synthesis for a name: an asterisk label before its closest encloser (RFC 4592, 3.3.1).
+    ///
+    /// It is `None` exactly where the name isn't in the zone or exists. The wildcard may have no records, and it may not
+    /// exist.
+    pub fn source_of_synthesis<'q>(&self, name: Name<&'q [u8]>) -> Option<Wildcard<'q>>
+        ensures { MatchOption result
+            (IsMissing (zone_view self.now) (name_labels name.entry) → ⊥)
+            (λ w. IsMissing (zone_view self.now) (name_labels name.entry)
+            × IsSourceFor (zone_view self.now) (name_labels name.entry)
+            (relative_labels (left_part w) ++ name_labels (right_part w))) }
+    {
+        order_laws();
+        let records = self.records();
+        if !name.ends_with(&records.apex) {
+            return None;
+        }
+        let place = place_of(records, &name, 0);
+        if is_below_at(records, place, &name) {
+            return None;
+        }
+        Some(source_at(records, place, name))
     }
 }

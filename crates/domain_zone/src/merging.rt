@@ -70,6 +70,7 @@ fn joined(set: Rrset<Owner>, ttl: u32, octets: Vec<u8>) -> Result<Rrset<Owner>, 
         owner,
         rtype,
         ttl: kept,
+        cut,
         rdata,
         signature_ttls,
     } = set;
@@ -79,6 +80,7 @@ fn joined(set: Rrset<Owner>, ttl: u32, octets: Vec<u8>) -> Result<Rrset<Owner>, 
         owner,
         rtype,
         ttl: lower(kept, ttl),
+        cut,
         rdata,
         signature_ttls,
     })
@@ -93,7 +95,12 @@ fn is_key<'a>(set: &'a Rrset<Owner>, owner: &'a Owner, rtype: u16) -> bool
 }
 
 /// Whether the RRset at an index is of an owner and a type.
-fn is_taken<'a>(records: &'a ZoneRecords<Owner>, at: usize, owner: &'a Owner, rtype: u16) -> bool
+pub(crate) fn is_taken<'a>(
+    records: &'a ZoneRecords<Owner>,
+    at: usize,
+    owner: &'a Owner,
+    rtype: u16,
+) -> bool
     ensures { IsTrue result ↔ ((at < length (records_view records.now).rrsets)
         × ((d : RRset) → SameLabels (slice_index_or (records_view records.now).rrsets at d).owner
         (name_labels owner.now)
@@ -142,6 +149,7 @@ fn begun(alloc: Global, entry: Entry) -> Result<Rrset<Owner>, AllocError>
         owner,
         rtype,
         ttl,
+        cut: 0,
         rdata,
         signature_ttls,
     })

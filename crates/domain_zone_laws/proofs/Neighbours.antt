@@ -23,24 +23,24 @@ equal_greater e = cc
 less_equal : Less ≡ Equal → ⊥
 less_equal e = cc
 
-not_greater : (r : RRset) (n : List (List ℕ)) (t : ℕ) → ComesBefore r n t → canonical_order r.owner n ≢ Greater
+pub not_greater : (r : RRset) (n : List (List ℕ)) (t : ℕ) → ComesBefore r n t → canonical_order r.owner n ≢ Greater
 not_greater r n t (inl b) = λ e. less_greater (sym b ∙ e)
 not_greater r n t (inr b) = λ e. equal_greater (sym b.0 ∙ e)
 
 reversed_less : (a b : List (List ℕ)) (o : Ordering) → canonical_order b a ≡ Less → canonical_order a b ≡ o → o ≡ Greater
 reversed_less a b o h e = sym e ∙ (order_is_total.antisymm a b ∙ ap ordering_reverse h)
 
-not_less : (r : RRset) (n : List (List ℕ)) (t : ℕ) → ComesBefore r n t → canonical_order n r.owner ≢ Less
+pub not_less : (r : RRset) (n : List (List ℕ)) (t : ℕ) → ComesBefore r n t → canonical_order n r.owner ≢ Less
 not_less r n t (inl b) = λ e. less_greater (reversed_less n r.owner Less b e)
 not_less r n t (inr b) = λ e. less_equal (sym e ∙ (order_is_total.antisymm n r.owner ∙ ap ordering_reverse b.0))
 
-no_more : (o : Ordering) → o ≢ Greater → (o ≡ Less) ⊎ (o ≡ Equal)
+pub no_more : (o : Ordering) → o ≢ Greater → (o ≡ Less) ⊎ (o ≡ Equal)
 no_more Less h = inl refl
 no_more Equal h = inr refl
 no_more Greater h = absurd (h refl)
 
 -- a set before a place, or the last of them
-before_place : DescendantsAreAdjacent → (z : Zone) (q a : List (List ℕ)) (t i k : ℕ) (s d : RRset) → IsSorted z → IsPlace z q t i → k < length z.rrsets → slice_index_or z.rrsets k s ≡ s → k < i → i ≤ length z.rrsets
+pub before_place : DescendantsAreAdjacent → (z : Zone) (q a : List (List ℕ)) (t i k : ℕ) (s d : RRset) → IsSorted z → IsPlace z q t i → k < length z.rrsets → slice_index_or z.rrsets k s ≡ s → k < i → i ≤ length z.rrsets
     → EndsWith s.owner a → EndsWith q a → EndsWith (slice_index_or z.rrsets (i - 1) d).owner a
 before_place together z q a t i k s d o p h e l w ends above =
     let at = same_default z.rrsets k s d h e in

@@ -17,7 +17,7 @@ abbrev Names : Type 0
 Names = List (List ℕ)
 
 -- names that the order finds equal are in the same order to others
-right_equal : (r s n : Names) → canonical_order s n ≡ Equal → canonical_order r n ≡ canonical_order r s
+pub right_equal : (r s n : Names) → canonical_order s n ≡ Equal → canonical_order r n ≡ canonical_order r s
 right_equal r s n e = order_is_total.antisymm r n ∙ (ap ordering_reverse (sym (order_is_total.congr s n r e)) ∙ sym (order_is_total.antisymm r s))
 
 -- what comes before a set comes before all that the set comes before
@@ -55,7 +55,7 @@ not_before_itself apart s n t e f (inl b) = less_no_equal (sym b ∙ (apart s.ow
 not_before_itself apart s n t e f (inr b) = omega (arith, b.1, f)
 
 -- what is at the name or below it doesn't come before the name
-not_before_above : ParentIsFirst → (s : RRset) (n : Names) → EndsWith s.owner n → ComesBefore s n 0 → ⊥
+pub not_before_above : ParentIsFirst → (s : RRset) (n : Names) → EndsWith s.owner n → ComesBefore s n 0 → ⊥
 not_before_above first s n e (inl b) = first n s.owner e (order_is_total.antisymm n s.owner ∙ ap ordering_reverse b)
 not_before_above first s n e (inr b) = omega (arith, b.1)
 
@@ -70,7 +70,7 @@ not_after r s (inr b) = λ e. equal_greater (sym b.0 ∙ e)
     equal_greater e = cc
 
 -- a set before one that is at the name comes before the name
-before_at : OrderDecidesEquality → (r s : RRset) (n : Names) (t : ℕ) → SameLabels s.owner n → s.rtype ≡ t → ComesBefore r s.owner s.rtype → ComesBefore r n t
+pub before_at : OrderDecidesEquality → (r s : RRset) (n : Names) (t : ℕ) → SameLabels s.owner n → s.rtype ≡ t → ComesBefore r s.owner s.rtype → ComesBefore r n t
 before_at apart r s n t e f (inl b) = inl (right_equal r.owner s.owner n ((apart s.owner n).1 e) ∙ b)
 before_at apart r s n t e f (inr b) = inr (right_equal r.owner s.owner n ((apart s.owner n).1 e) ∙ b.0, omega (arith, b.1, f))
 
@@ -81,7 +81,7 @@ pub same_default : (xs : List RRset) (k : ℕ) (s d : RRset) → k < length xs �
 same_default xs k s d h e = get_or_default xs k d s h ∙ e
 
 -- neither is greater
-both_ways : (a b : Names) → canonical_order a b ≢ Greater → canonical_order b a ≢ Greater → canonical_order a b ≡ Equal
+pub both_ways : (a b : Names) → canonical_order a b ≢ Greater → canonical_order b a ≢ Greater → canonical_order a b ≡ Equal
 both_ways a b g h = equal_of (canonical_order a b) refl g (λ (e : canonical_order a b ≡ Less). h (order_is_total.antisymm b a ∙ ap ordering_reverse e))
   where
     equal_of : (c : Ordering) → canonical_order a b ≡ c → c ≢ Greater → c ≢ Less → canonical_order a b ≡ Equal

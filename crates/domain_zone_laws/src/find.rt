@@ -54,7 +54,7 @@ pub fn place_of<'a, N: ToLabelIter<'a>, M: ToLabelIter<'a>>(
 }
 
 /// Whether an RRset is what a name has of a type.
-fn is_of<'a, N: ToLabelIter<'a>, M: ToLabelIter<'a>>(
+pub(crate) fn is_of<'a, N: ToLabelIter<'a>, M: ToLabelIter<'a>>(
     set: &'a Rrset<N>,
     name: &'a M,
     rtype: u16,

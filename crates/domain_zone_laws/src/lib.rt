@@ -4,6 +4,7 @@
 pub mod cut;
 pub mod find;
 pub mod laws;
+pub mod reading;
 pub mod reply;
 pub mod sorted;
 pub mod ttl;

@@ -18,6 +18,9 @@ pub struct Rrset<N> {
     pub rtype: u16,
     /// How many seconds they may be kept. For an RRSIG record `record_ttl` returns that.
     pub ttl: u32,
+    /// Which RRset has the name servers of the first cut at or above the owner: its index in the zone, and no index of
+    /// the zone where there is no such cut. A zone that is kept sets it. In other records it says nothing.
+    pub cut: usize,
     /// The data of each record, in which names aren't compressed.
     pub rdata: Vec<Vec<u8>>,
     /// The TTLs of RRSIG records, by the type that they cover (RFC 4034, 3). It is empty for any other type.

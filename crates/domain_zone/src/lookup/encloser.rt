@@ -19,7 +19,7 @@ use domain_zone_laws::find::place_of;
 use domain_zone_laws::zone::ZoneRecords;
 
 /// Whether the RRset at an index is at or below a name.
-fn is_below_at<'a, M: ToLabelIter<'a>>(
+pub(crate) fn is_below_at<'a, M: ToLabelIter<'a>>(
     records: &'a ZoneRecords<Owner>,
     index: usize,
     name: &'a M,
@@ -35,7 +35,7 @@ fn is_below_at<'a, M: ToLabelIter<'a>>(
 }
 
 /// Whether a name is in the zone, and one of the two RRsets beside a place is at or below it.
-pub(crate) fn is_beside<'a, M: ToLabelIter<'a>>(
+fn is_beside<'a, M: ToLabelIter<'a>>(
     records: &'a ZoneRecords<Owner>,
     place: usize,
     name: &'a M,
@@ -78,6 +78,30 @@ pub(crate) fn closest_encloser<'q>(
 /// A wildcard: an asterisk label before a name.
 pub type Wildcard<'q> = Chain<RelativeName<&'static [u8]>, Name<&'q [u8]>>;
 
+/// The source of synthesis for a name in the zone that doesn't exist, from the place of the name.
+pub(crate) fn source_at<'q>(
+    records: &ZoneRecords<Owner>,
+    place: usize,
+    name: Name<&'q [u8]>,
+) -> Wildcard<'q>
+    requires zone { IsZone (records_view records.now) }
+    requires sorted { IsSorted (records_view records.now) }
+    requires inside { EndsWith (name_labels name) (name_labels records.now.apex) }
+    requires missing { Exists (records_view records.now) (name_labels name) → ⊥ }
+    requires within { place ≤ length (records_view records.now).rrsets }
+    requires place { IsPlace (records_view records.now) (name_labels name) 0 place }
+    ensures { (e : List (List ℕ))
+        × IsClosestEncloser (records_view records.now) (name_labels name.entry) e
+        × (relative_labels (left_part result) ++ name_labels (right_part result)
+        ≡ source_of_synthesis e) }
+{
+    let encloser = closest_encloser(records, place, name);
+    let Ok(source) = Chain::new(RelativeName::wildcard_ref(), encloser) else {
+        unreachable!();
+    };
+    source
+}
+
 /// Returns the source of synthesis for a name in the zone that doesn't exist: an asterisk label before its closest
 /// encloser (RFC 4592, 3.3.1).
 ///
@@ -93,9 +117,5 @@ pub fn source_of_synthesis<'q>(records: &ZoneRecords<Owner>, name: Name<&'q [u8]
         ≡ source_of_synthesis e) }
 {
     let place = place_of(records, &name, 0);
-    let encloser = closest_encloser(records, place, name);
-    let Ok(source) = Chain::new(RelativeName::wildcard_ref(), encloser) else {
-        unreachable!();
-    };
-    source
+    source_at(records, place, name)
 }

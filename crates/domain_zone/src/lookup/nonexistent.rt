@@ -1,20 +1,23 @@
 //! What a zone answers for a name that doesn't exist.
-ghost use Rattle.std.specs.Prelude.{◌≡◌, ◌≤◌, ℕ, List, length, map};
+ghost use Rattle.std.specs.Prelude.{◌≡◌, ◌≤◌, MatchOption, ℕ, List, length, map};
 ghost use Rattle.domain_list.specs.Ends.{EndsWith};
 ghost use Rattle.domain_name.specs.Names.{name_labels};
 ghost use Rattle.domain_zone.specs.Outcomes.{outcome_of, IsRedirection};
 ghost use Rattle.domain_zone.specs.Records.{records_view, set_view};
 ghost use Rattle.domain_zone_laws.specs.Answers.{Answers, IsAuthoritative};
-ghost use Rattle.domain_zone_laws.specs.Sorted.{IsSorted, IsPlace};
-ghost use Rattle.domain_zone_laws.specs.Zone.{IsZone, Exists, IsOneName, target};
+ghost use Rattle.domain_zone_laws.specs.Sorted.{IsSorted, IsPlace, IsLastBefore};
+ghost use Rattle.domain_zone_laws.specs.Zone.{IsZone, Exists, HasType, IsAt};
+ghost use Rattle.domain_zone_laws.specs.Zone.{IsOneName, target, DNAME};
 
-use crate::lookup::encloser::closest_encloser;
+use crate::lookup::encloser::{closest_encloser, is_below_at};
 use crate::lookup::outcome::Answer;
 use crate::names::Owner;
 use domain_list::Chain;
+use domain_list::laws::order_laws;
 use domain_name::{Name, RelativeName};
-use domain_zone_laws::find::find_at;
-use domain_zone_laws::reply::{exists, reply_at};
+use domain_zone_laws::find::place_of;
+use domain_zone_laws::reading::find_before;
+use domain_zone_laws::reply::reply_from;
 use domain_zone_laws::zone::{Rrset, ZoneRecords};
 
 /// Where a CNAME or a DNAME leads.
@@ -44,7 +47,26 @@ fn redirection<'a>(name: Name<&'a [u8]>, dname: &'a Rrset<Owner>) -> Answer<'a>
     }
 }
 
+/// The DNAME that a name owns, read back from an index before which are the last RRsets of the name.
+fn dname_above<'z: 'a, 'a>(
+    records: &'z ZoneRecords<Owner>,
+    place: usize,
+    encloser: &'a Name<&'a [u8]>,
+) -> Option<&'z Rrset<Owner>>
+    requires sorted { IsSorted (records_view records.now) }
+    requires within { place ≤ length (records_view records.now).rrsets }
+    requires last { IsLastBefore (records_view records.now) (name_labels encloser.now) DNAME place }
+    ensures { MatchOption result
+        (HasType (records_view records.now) (name_labels encloser.now) DNAME → ⊥)
+        (λ s. IsAt (records_view records.now) (name_labels encloser.now) DNAME (set_view s.now)) }
+{
+    find_before(records, place, encloser, 39)
+}
+
 /// What the zone answers for a name in it that doesn't exist.
+///
+/// A DNAME above the name has no records below its owner, so it is right before the place of the name. The RRsets are
+/// searched by halves once, for the source of synthesis.
 pub(crate) fn lookup_nonexistent<'a>(
     records: &'a ZoneRecords<Owner>,
     place: usize,
@@ -59,15 +81,17 @@ pub(crate) fn lookup_nonexistent<'a>(
     requires missing { Exists (records_view records.now) (name_labels name.now) → ⊥ }
     ensures { Answers (records_view records.now) (name_labels name.now) rtype (outcome_of result) }
 {
+    order_laws();
     let encloser = closest_encloser(records, place, *name);
-    if let Some(dname) = find_at(records, &encloser, 39) {
+    if let Some(dname) = dname_above(records, place, &encloser) {
         return redirection(*name, dname);
     }
     let Ok(source) = Chain::new(RelativeName::wildcard_ref(), encloser) else {
         return Answer::NameError;
     };
-    if !exists(records, &source) {
+    let at = place_of(records, &source, 0);
+    if !is_below_at(records, at, &source) {
         return Answer::NameError;
     }
-    Answer::Synthesized(reply_at(records, &source, rtype))
+    Answer::Synthesized(reply_from(records, at, &source, rtype))
 }

@@ -4,7 +4,7 @@ use Rattle.std.proofs.lemmas.List.Elements.{All-map}
 use Rattle.domain_label.specs.Wire.{IsAbsoluteName}
 use Rattle.domain_list.proofs.AncestorLaws.{tells_apart}
 use Rattle.domain_name.specs.Names.{name_labels}
-use Rattle.domain_zone.proofs.Had.{canonical_had, zone_had}
+use Rattle.domain_zone.proofs.Had.{canonical_had, cuts_had, zone_had}
 use Rattle.domain_zone_laws.specs.Views.{rrset, zone_of}
 use Rattle.domain_zone_laws.specs.Zone.{RRset}
 use Rattle.domain_zone.proofs.kept.Zone.records.Goals as goal
@@ -19,3 +19,6 @@ returns-clause-zone c =
 
 pub returns-clause-canonical : goal.returns-clause-canonical
 returns-clause-canonical c = canonical_had (zone_of name_labels c.args.self.now.records) c.args.self.now.canonical
+
+pub returns-clause-cuts : goal.returns-clause-cuts
+returns-clause-cuts c = cuts_had c.args.self.now.records c.args.self.now.cuts

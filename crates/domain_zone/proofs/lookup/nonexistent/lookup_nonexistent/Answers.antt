@@ -1,14 +1,27 @@
-use Rattle.std.proofs.Common.{◌≡◌, ◌++◌, ◌<◌, refl, sym, ap, ◌∙◌, subst, inr, true≢false}
+use Rattle.std.proofs.Common.{◌≡◌, [], ◌∷◌, ◌++◌, ◌<◌, refl, sym, ap, ◌∙◌, subst, inr, true≢false}
 use Rattle.domain_list.specs.Chains.{before_root}
 use Rattle.domain_name.specs.Names.{name_labels, relative_labels, Wildcard}
 use Rattle.domain_zone.proofs.Leading.{redirected, long_source}
 use Rattle.domain_zone.proofs.Substituting.{joined}
 use Rattle.domain_zone.specs.Outcomes.{outcome_of}
-use Rattle.domain_zone_laws.proofs.Ending.{ends_same}
+use Rattle.domain_list.specs.Ends.{EndsWith}
+use Rattle.domain_zone.proofs.Near.{dname_last}
+use Rattle.domain_zone.proofs.Neighbours.{below_from, exists_below}
+use Rattle.domain_zone_laws.proofs.Ending.{ends_same, ends_after, ends_below}
+use Rattle.domain_zone_laws.proofs.Nodes.{exists_same}
 use Rattle.domain_zone_laws.specs.Answers.{Replies}
 use Rattle.domain_zone_laws.specs.Views.{reply_of, rrset, zone_of}
 use Rattle.domain_zone_laws.specs.Zone.{Exists, source_of_synthesis}
 use Rattle.domain_zone.proofs.lookup.nonexistent.lookup_nonexistent.Goals as goal
+
+pub dname_above-requires-clause-last : goal.dname_above-requires-clause-last
+dname_above-requires-clause-last c =
+    let z = zone_of name_labels c.args.records.now in
+    let q = name_labels c.args.name.now in
+    let e = name_labels c.closest_encloser-encloser.result in
+    let k = c.closest_encloser-encloser.ensures in
+    dname_last z c.requires.zone c.order_laws.ensures.apart c.order_laws.ensures.first c.order_laws.ensures.together c.requires.sorted q e c.args.place c.requires.within c.requires.place
+    k.1 (λ v. c.requires.missing (exists_same z e q (sym v) k.0))
 
 pub redirection-requires-clause-below : goal.redirection-requires-clause-below
 redirection-requires-clause-below c =
@@ -29,29 +42,34 @@ returns-in_default-new c =
     let long : 254 < before_root (source_of_synthesis e) = subst (λ x. 254 < before_root x) at (c.in_default-new.ensures.long.0 refl) in
     (e, (c.requires.ours, c.requires.missing, c.closest_encloser-encloser.ensures), c.in_default.ensures, long_source (zone_of name_labels c.args.records.now) c.requires.zone e c.closest_encloser-encloser.result.absolute.1.0 long)
 
-pub returns-then-not-exists : goal.returns-then-not-exists
-returns-then-not-exists c =
+pub returns-then-not-is_below_at : goal.returns-then-not-is_below_at
+returns-then-not-is_below_at c =
+    let z = zone_of name_labels c.args.records.now in
     let e = name_labels c.closest_encloser-encloser.result in
     let made = c.in-Ok.source in
-    let at : relative_labels made.left ++ name_labels made.right ≡ source_of_synthesis e =
-    joined (relative_labels made.left) Wildcard (name_labels made.right) e (ap relative_labels c.in-Ok.ensures.parts.0 ∙ c.wildcard_ref.ensures) (ap name_labels c.in-Ok.ensures.parts.1) in
-    let z = zone_of name_labels c.args.records.now in (
+    let name = relative_labels made.left ++ name_labels made.right in
+    let at : name ≡ source_of_synthesis e =
+    joined (relative_labels made.left) Wildcard (name_labels made.right) e (ap relative_labels c.in-Ok.ensures.parts.0 ∙ c.wildcard_ref.ensures) (ap name_labels c.in-Ok.ensures.parts.1) in (
       e,
       (c.requires.ours, c.requires.missing, c.closest_encloser-encloser.ensures),
       c.in_default.ensures,
-      λ x. true≢false (sym (c.exists.ensures.1 (subst (λ n. Exists z n) (sym at) x)) ∙ c.if-not-exists.true),
+      λ x. true≢false (sym (c.is_below_at.ensures.1
+          (below_from z name c.place_of-at.result c.order_laws.ensures.first c.order_laws.ensures.together c.requires.sorted c.place_of-at.ensures.place (subst (λ n. Exists z n) (sym at) x))) ∙ c.if-not-is_below_at.true),
     )
 
 pub returns : goal.returns
 returns c =
+    let z = zone_of name_labels c.args.records.now in
     let e = name_labels c.closest_encloser-encloser.result in
     let made = c.in-Ok.source in
-    let at : relative_labels made.left ++ name_labels made.right ≡ source_of_synthesis e =
+    let name = relative_labels made.left ++ name_labels made.right in
+    let at : name ≡ source_of_synthesis e =
     joined (relative_labels made.left) Wildcard (name_labels made.right) e (ap relative_labels c.in-Ok.ensures.parts.0 ∙ c.wildcard_ref.ensures) (ap name_labels c.in-Ok.ensures.parts.1) in
-    let z = zone_of name_labels c.args.records.now in (
+    let b = c.is_below_at.ensures.0 c.if-not-is_below_at.false in
+    let inside : EndsWith name z.apex = subst (λ n. EndsWith n z.apex) (sym at) (ends_after (source_of_synthesis e) e z.apex (ends_below (42 ∷ []) e) c.closest_encloser-encloser.ensures.0.0) in (
       e,
       (c.requires.ours, c.requires.missing, c.closest_encloser-encloser.ensures),
       c.in_default.ensures,
-      subst (λ n. Exists z n) at (c.exists.ensures.0 c.if-not-exists.false),
-      subst (λ n. Replies z n c.args.rtype (reply_of name_labels c.reply_at.result)) at c.reply_at.ensures,
+      subst (λ n. Exists z n) at (exists_below z c.place_of-at.result name inside c.requires.zone.soa.0 b.0 b.1),
+      subst (λ n. Replies z n c.args.rtype (reply_of name_labels c.reply_from.result)) at c.reply_from.ensures,
     )

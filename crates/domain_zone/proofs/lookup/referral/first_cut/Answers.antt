@@ -1,51 +1,60 @@
-use Rattle.std.proofs.Common.{sym, ◌∙◌, true≢false}
+use Rattle.std.proofs.Common.{◌≡◌, ◌<◌, ◌≤◌, length, get_or, slice_index_or, ap, ◌∙◌, sym, subst, arith, true≢false}
+use Rattle.std.proofs.lemmas.Bool.{ltb-true}
+use Rattle.std.proofs.lemmas.List.{length-map}
 use Rattle.domain_name.specs.Names.{name_labels}
-use Rattle.domain_name.specs.Suffixes.{suffix_lists_left}
-use Rattle.domain_zone.proofs.Cutting.{viewed, of_viewed, cut_on, cut_taken, at_apex, after_last}
-use Rattle.domain_zone.proofs.Enclosing.{above_of}
-use Rattle.domain_zone.proofs.Neighbours.{beside_from, exists_by_type}
+use Rattle.domain_zone.specs.Cuts.{TellsCut}
+use Rattle.domain_zone.proofs.Near.{none_there, none_over, one_over}
+use Rattle.domain_zone.proofs.Telling.{tells_own}
 use Rattle.domain_zone_laws.specs.Views.{rrset, zone_of}
-use Rattle.domain_zone_laws.specs.Zone.{RRset, HasNoCut, IsFirstCut, IsAt, NS}
+use Rattle.domain_zone_laws.specs.Zone.{RRset}
+use Rattle.domain_zone_laws.proofs.Places.{view_at}
 use Rattle.domain_zone.proofs.lookup.referral.first_cut.Goals as goal
 
-pub returns-then-eq_names : goal.returns-then-eq_names
-returns-then-eq_names c =
+pub returns-in_default : goal.returns-in_default
+returns-in_default c =
     let z = zone_of name_labels c.args.records.now in
-    let q = name_labels c.args.name.now in
-    of_viewed name_labels (HasNoCut z q) (λ (s : RRset). IsFirstCut z q s.owner × IsAt z s.owner NS s) c.loop-suffix.first
-    (at_apex z q (name_labels c.in-Some.suffix) (suffix_lists_left c.next.new.self) (suffix_lists_left c.loop-suffix.suffixes) (viewed name_labels c.loop-suffix.first)
-    c.in-Some.ensures.steps c.loop-suffix.invariant.1 (c.eq_names.ensures.0 c.if-eq_names.true))
+    let xs = c.args.records.now.sets.items in
+    let i = c.args.near in
+    let s = c.in_ok-set.set.now in
+    let same = c.deref.ensures.value in
+    let within : i < length xs = subst (λ l. i < length l) same (ltb-true _ _ (sym c.in_ok-set.ensures.lookup.0)) in
+    let is : s ≡ get_or xs i s = c.in_ok-set.ensures.lookup.1 ∙ ap (λ l. get_or l i s) same in
+    let at : (d : RRset) → (slice_index_or z.rrsets i d).owner ≡ name_labels s.owner = λ d. ap (λ (r : RRset). r.owner) (view_at (rrset name_labels) xs i s within is d) in
+    let past : length xs ≤ s.cut = subst (λ l. length l ≤ s.cut) c.deref-2.ensures.value c.in_default.ensures.lookup.3 in
+    none_there z (name_labels c.args.name.now) i s.cut c.requires.near (name_labels s.owner) at (rrset name_labels s) (omega (arith, past, length-map xs (rrset name_labels))) (tells_own c.args.records.now c.requires.cuts i s within is)
 
-pub loop-suffix-preserved-then-not-is_beside : goal.loop-suffix-preserved-then-not-is_beside
-loop-suffix-preserved-then-not-is_beside c =
+pub returns-then-not-ends_with_labels : goal.returns-then-not-ends_with_labels
+returns-then-not-ends_with_labels c =
     let z = zone_of name_labels c.args.records.now in
-    let q = name_labels c.args.name.now in
-    let x = name_labels c.in-Some.suffix in
-    let rest = c.loop-suffix.invariant.1 in
-    let above = above_of q rest.0 x (suffix_lists_left c.next.new.self) (sym c.in-Some.ensures.steps ∙ rest.1) rest.2 in (
-      (tt, tt),
-      cut_on z q x (suffix_lists_left c.next.new.self) (suffix_lists_left c.loop-suffix.suffixes) (viewed name_labels c.loop-suffix.first) c.in-Some.ensures.steps rest
-          (λ h. true≢false (sym (c.is_beside.ensures.1 (beside_from z q c.args.place c.order_laws.ensures.together c.requires.sorted c.requires.within c.requires.place x above
-          (exists_by_type z c.requires.zone x NS h))) ∙ c.if-not-is_beside.true)),
-    )
-
-pub loop-suffix-preserved-in_default-find_at : goal.loop-suffix-preserved-in_default-find_at
-loop-suffix-preserved-in_default-find_at c = (
-  (tt, tt),
-  cut_on (zone_of name_labels c.args.records.now) (name_labels c.args.name.now) (name_labels c.in-Some.suffix) (suffix_lists_left c.next.new.self) (suffix_lists_left c.loop-suffix.suffixes) (viewed name_labels c.loop-suffix.first)
-      c.in-Some.ensures.steps c.loop-suffix.invariant.1 c.in_default-find_at.ensures,
-)
-
-pub loop-suffix-preserved : goal.loop-suffix-preserved
-loop-suffix-preserved c = (
-  (tt, tt),
-  cut_taken (zone_of name_labels c.args.records.now) (name_labels c.args.name.now) (name_labels c.in-Some.suffix) (suffix_lists_left c.next.new.self) (suffix_lists_left c.loop-suffix.suffixes) (viewed name_labels c.loop-suffix.first)
-      (rrset name_labels c.in-Some-find_at.set.now) c.requires.zone c.in-Some.ensures.steps c.loop-suffix.invariant.1 (λ e. true≢false (sym (c.eq_names.ensures.1 e) ∙ c.if-eq_names.false)) c.in-Some-find_at.ensures,
-)
+    let xs = c.args.records.now.sets.items in
+    let i = c.args.near in
+    let s = c.in_ok-set.set.now in
+    let same = c.deref.ensures.value in
+    let within : i < length xs = subst (λ l. i < length l) same (ltb-true _ _ (sym c.in_ok-set.ensures.lookup.0)) in
+    let is : s ≡ get_or xs i s = c.in_ok-set.ensures.lookup.1 ∙ ap (λ l. get_or l i s) same in
+    let at : (d : RRset) → (slice_index_or z.rrsets i d).owner ≡ name_labels s.owner = λ d. ap (λ (r : RRset). r.owner) (view_at (rrset name_labels) xs i s within is d) in
+    let b = c.in-Some.first.now in
+    let same_again = c.deref-2.ensures.value in
+    let inside : s.cut < length xs = subst (λ l. s.cut < length l) same_again (ltb-true _ _ (sym c.in-Some.ensures.lookup.0)) in
+    let is_cut : b ≡ get_or xs s.cut b = c.in-Some.ensures.lookup.1 ∙ ap (λ l. get_or l s.cut b) same_again in
+    none_over z (name_labels c.args.name.now) i s.cut c.requires.near (name_labels s.owner) at (rrset name_labels s) (rrset name_labels b) (omega (arith, inside, length-map xs (rrset name_labels)))
+    (view_at (rrset name_labels) xs s.cut b inside is_cut (rrset name_labels b))
+    (λ e. true≢false (sym (c.ends_with_labels.ensures.1 e) ∙ c.if-not-ends_with_labels.true)) (tells_own c.args.records.now c.requires.cuts i s within is)
 
 pub returns : goal.returns
 returns c =
     let z = zone_of name_labels c.args.records.now in
-    let q = name_labels c.args.name.now in
-    of_viewed name_labels (HasNoCut z q) (λ (s : RRset). IsFirstCut z q s.owner × IsAt z s.owner NS s) c.loop-suffix.first
-    (after_last z q (suffix_lists_left c.loop-suffix.suffixes) (viewed name_labels c.loop-suffix.first) c.requires.zone c.in_default.ensures.steps.0 c.loop-suffix.invariant.1)
+    let xs = c.args.records.now.sets.items in
+    let i = c.args.near in
+    let s = c.in_ok-set.set.now in
+    let same = c.deref.ensures.value in
+    let within : i < length xs = subst (λ l. i < length l) same (ltb-true _ _ (sym c.in_ok-set.ensures.lookup.0)) in
+    let is : s ≡ get_or xs i s = c.in_ok-set.ensures.lookup.1 ∙ ap (λ l. get_or l i s) same in
+    let at : (d : RRset) → (slice_index_or z.rrsets i d).owner ≡ name_labels s.owner = λ d. ap (λ (r : RRset). r.owner) (view_at (rrset name_labels) xs i s within is d) in
+    let b = c.in-Some.first.now in
+    let same_again = c.deref-2.ensures.value in
+    let inside : s.cut < length xs = subst (λ l. s.cut < length l) same_again (ltb-true _ _ (sym c.in-Some.ensures.lookup.0)) in
+    let is_cut : b ≡ get_or xs s.cut b = c.in-Some.ensures.lookup.1 ∙ ap (λ l. get_or l s.cut b) same_again in
+    one_over z (name_labels c.args.name.now) i s.cut c.requires.near (name_labels s.owner) at (rrset name_labels s) (rrset name_labels b) (omega (arith, inside, length-map xs (rrset name_labels)))
+    (view_at (rrset name_labels) xs s.cut b inside is_cut (rrset name_labels b))
+    (c.ends_with_labels.ensures.0 c.if-not-ends_with_labels.false) (tells_own c.args.records.now c.requires.cuts i s within is)
