@@ -4,7 +4,7 @@
     second_entries.py < LINES
 
 It answers the lines `entries` and `ttl` of the table, and any other line with `bad`. `second_data` reads names, the
-data of a record and the mnemonic of a type. Where the RFCs leave a choice, it is as the README.md of `domain_zone_text` says.
+data of a record and the mnemonic of a type. Where the RFCs leave a choice, it is as the README.md of `domain_zonefile` says.
 """
 import re
 import sys

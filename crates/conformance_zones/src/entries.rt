@@ -4,7 +4,7 @@ use crate::text::{put_space, put_variant, text_of};
 use conformance_labels::{Answer, Fail, Fields};
 use domain_name::Name;
 use domain_rdata_text::{Place, ttl_of};
-use domain_zone_text::{Context, Directive, Entry, EntryReason, Record, ZoneReader, ZoneTextError};
+use domain_zonefile::{Context, Directive, Entry, EntryReason, Record, ZoneReader, ZoneTextError};
 
 /// `entries ORIGIN TEXT`: the records of the text and the files that it includes; then its first fault, if it has one.
 pub fn put_entries(out: &Answer, line: &[u8]) {

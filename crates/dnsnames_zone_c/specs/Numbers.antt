@@ -10,10 +10,10 @@ use Rattle.domain_zone.specs.declared.fault.RrsetFault.{RrsetFault}
 use Rattle.domain_zone.specs.declared.fault.RrsetFault.TheVariants as rrset
 use Rattle.domain_zone.specs.declared.fault.ZoneFault.{ZoneFault}
 use Rattle.domain_zone.specs.declared.fault.ZoneFault.TheVariants as zone
-use Rattle.domain_zone_load.specs.declared.error.LoadError.{LoadError}
-use Rattle.domain_zone_load.specs.declared.error.LoadError.TheVariants as load
-use Rattle.domain_zone_text.specs.declared.error.EntryReason.{EntryReason}
-use Rattle.domain_zone_text.specs.declared.error.EntryReason.TheVariants as entry
+use Rattle.domain_zonefile.specs.declared.load_error.LoadError.{LoadError}
+use Rattle.domain_zonefile.specs.declared.load_error.LoadError.TheVariants as load
+use Rattle.domain_zonefile.specs.declared.error.EntryReason.{EntryReason}
+use Rattle.domain_zonefile.specs.declared.error.EntryReason.TheVariants as entry
 
 -- of data
 abbrev pub data_number : Reason → ℕ

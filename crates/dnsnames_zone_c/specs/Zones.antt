@@ -7,8 +7,8 @@ use Rattle.domain_buffer.specs.Puts.{PutsAt}
 use Rattle.domain_header.specs.Values.{class_number}
 use Rattle.domain_zone.specs.Kept.{zone_view, zone_class}
 use Rattle.domain_zone.specs.declared.kept.Zone.{Zone}
-use Rattle.domain_zone_load.specs.declared.error.LoadError.{LoadError}
-use Rattle.domain_zone_load.specs.Loads.{IsNoZone, IsZoneOf}
+use Rattle.domain_zonefile.specs.declared.load_error.LoadError.{LoadError}
+use Rattle.domain_zonefile.specs.Loads.{IsNoZone, IsZoneOf}
 use Rattle.domain_zone_response.specs.Queries.{IsNoQuery}
 use Rattle.domain_zone_response.specs.Responses.{Responds}
 use Rattle.domain_zone_response.specs.declared.edns.Server.{Server}

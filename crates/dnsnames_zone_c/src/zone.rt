@@ -4,7 +4,7 @@ ghost use Rattle.std.specs.declared.option.Option.TheVariants.{None};
 ghost use Rattle.domain_header.specs.Values.{class_number};
 ghost use Rattle.domain_label.specs.Wire.{IsAbsoluteWire};
 ghost use Rattle.domain_name.specs.Names.{name_octets};
-ghost use Rattle.domain_zone_load.specs.Loads.{IsNoZone};
+ghost use Rattle.domain_zonefile.specs.Loads.{IsNoZone};
 ghost use Rattle.dnsnames_zone_c.specs.Zones.{AnswersFrom, GivesResponse, IsHeldZoneOf, RefusesText, server_of, transport_of};
 
 use crate::number::{number_of, place_of_error};
@@ -14,7 +14,7 @@ use domain_compress::CompressComposer;
 use domain_header::Class;
 use domain_name::Name;
 use domain_zone::{Owner, Zone};
-use domain_zone_load::{LoadError, load};
+use domain_zonefile::{LoadError, load};
 use domain_zone_response::{Server, Transport, respond_to};
 use octseq::Octets;
 use std::alloc::{AllocError, Global};

@@ -1,7 +1,7 @@
 //! Why an entry isn't read, as text.
 
 use domain_rdata_text::Reason;
-use domain_zone_text::EntryReason;
+use domain_zonefile::EntryReason;
 use std::fmt;
 
 /// The text of a reason.

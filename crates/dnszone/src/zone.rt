@@ -5,8 +5,8 @@ use domain_header::Class;
 use domain_name::Name;
 use domain_rdata_text::{Place, place_of};
 use domain_zone::{Owner, Zone};
-use domain_zone_load::{LoadError, load};
-use domain_zone_text::{Context, Directive, Entry, Record, ZoneReader, ZoneTextError};
+use domain_zonefile::{LoadError, load};
+use domain_zonefile::{Context, Directive, Entry, Record, ZoneReader, ZoneTextError};
 use std::alloc::{AllocError, Global};
 use std::fmt;
 
@@ -108,7 +108,7 @@ fn apex_of(alloc: Global, text: &[u8]) -> Result<(Owner, Class), TextFault> {
 /// # Errors
 ///
 /// `NoSoa` where each entry can be read and none is a SOA. `Load` where an entry up to the first SOA can't be read or
-/// is `$INCLUDE`, and else with the error of `load` of `domain_zone_load`.
+/// is `$INCLUDE`, and else with the error of `load` of `domain_zonefile`.
 pub fn zone_of(alloc: Global, text: &[u8]) -> Result<Zone, TextFault> {
     let (apex, class) = apex_of(alloc, text)?;
     match load(alloc, text, apex, class) {

@@ -1,5 +1,0 @@
-use Rattle.domain_zone_text.proofs.Fronts.{lines_and_rest}
-use Rattle.domain_zone_text.proofs.laws.lines_law.Goals as goal
-
-pub returns : goal.returns
-returns c = lines_and_rest

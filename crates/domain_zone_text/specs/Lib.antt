@@ -1,9 +1,0 @@
-pub mod Outcome
-pub mod Entries
-pub mod Mnemonics
-pub mod Heads
-pub mod Directives
-pub mod Meanings
-pub mod Reading
-pub mod Lines
-pub mod Readers

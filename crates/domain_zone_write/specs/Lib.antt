@@ -1,4 +1,0 @@
-pub mod Texts
-pub mod Fronts
-pub mod Relative
-pub mod Laws

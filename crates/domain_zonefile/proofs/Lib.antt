@@ -1,0 +1,26 @@
+pub mod Splitting
+pub mod Outcomes
+pub mod Fronts
+pub mod Owning
+pub mod Cutting
+pub mod Named
+pub mod Lines
+mod Entering
+pub mod Names
+pub mod Unknown
+pub mod Starting
+pub mod Appending
+pub mod Members
+pub mod Ttls
+pub mod Same
+pub mod Alike
+pub mod Reading
+pub mod Loading
+pub mod Wording
+pub mod Worded
+pub mod Below
+pub mod Stating
+pub mod Mapping
+pub mod Spelling
+pub mod Saying
+pub mod Loaded

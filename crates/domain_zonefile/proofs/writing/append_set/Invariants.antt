@@ -1,0 +1,10 @@
+use Rattle.std.proofs.Common.{ℕ, List, map, drop}
+use Rattle.domain_header.specs.Values.{class_number}
+use Rattle.domain_zone.specs.Records.{set_view}
+use Rattle.domain_zonefile.specs.Texts.{AppendsLines, record_of, set_records}
+use Rattle.domain_zonefile.proofs.writing.append_set.Given as goal
+
+abbrev pub invariant-loop-octets : goal.invariant-loop-octets
+invariant-loop-octets l =
+    (new : List ℕ) → AppendsLines (class_number l.fn.class) (map (record_of (set_view l.fn.set)) (drop l.octets-index (set_view l.fn.set).rdata)) l.text.items new
+    → AppendsLines (class_number l.fn.class) (set_records (set_view l.fn.set)) l.initial.text.items new

@@ -1,0 +1,15 @@
+pub mod Outcome
+pub mod Entries
+pub mod Mnemonics
+pub mod Heads
+pub mod Directives
+pub mod Meanings
+pub mod Reading
+pub mod Lines
+pub mod Readers
+pub mod Takings
+pub mod Loads
+pub mod Texts
+pub mod Fronts
+pub mod Relative
+pub mod ZoneLaws
