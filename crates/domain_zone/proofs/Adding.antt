@@ -20,11 +20,11 @@ use Rattle.domain_list.specs.Order.{canonical_order, SameLabels}
 use Rattle.domain_zone.specs.Building.{Inserted, signature_ttl, IsOf, HasRecord, IsMadeOf, Holds, SameKey, IsLarger, IsMadeFrom, Adds, AddsData, Joins, JoinsAt, one_record}
 use Rattle.domain_zone.specs.Faults.{IsAscending, IsCanonical}
 use Rattle.domain_zone.proofs.Chains.{IsChain, chain_insert, chain_replace}
-use Rattle.domain_zone_laws.specs.Sorted.{ComesBefore, IsPlace}
-use Rattle.domain_zone_laws.specs.Zone.{Zone, RRset, HasType}
-use Rattle.domain_zone_laws.specs.declared.zone.SignatureTtl.{SignatureTtl}
-use Rattle.domain_zone_laws.proofs.Deciding.{only_one}
-use Rattle.domain_zone_laws.proofs.Places.{same_default}
+use Rattle.domain_zone.specs.Sorted.{ComesBefore, IsPlace}
+use Rattle.domain_zone.specs.Zone.{Zone, RRset, HasType}
+use Rattle.domain_zone.specs.declared.zone.SignatureTtl.{SignatureTtl}
+use Rattle.domain_zone.proofs.Deciding.{only_one}
+use Rattle.domain_zone.proofs.Places.{same_default}
 
 -- ---- lists of views
 

@@ -6,9 +6,9 @@ use Rattle.domain_label.specs.Wire.{IsAbsolute, IsAbsoluteName}
 use Rattle.domain_flat.specs.Flat.{suffix_lists}
 use Rattle.domain_list.specs.Ends.{EndsWith}
 use Rattle.domain_list.specs.Order.{SameLabels}
-use Rattle.domain_zone_laws.specs.Zone.{Zone, RRset, IsZone, Exists, IsClosestEncloser}
-use Rattle.domain_zone_laws.proofs.Ending.{ends_itself, same_ends, ends_after, ends_below, ends_step, ends_none}
-use Rattle.domain_zone_laws.proofs.Nodes.{exists_same}
+use Rattle.domain_zone.specs.Zone.{Zone, RRset, IsZone, Exists, IsClosestEncloser}
+use Rattle.domain_zone.proofs.Ending.{ends_itself, same_ends, ends_after, ends_below, ends_step, ends_none}
+use Rattle.domain_zone.proofs.Nodes.{exists_same}
 
 abbrev pub Names : Type 0
 Names = List (List ℕ)

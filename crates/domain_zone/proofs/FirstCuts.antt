@@ -11,11 +11,11 @@ use Rattle.domain_list.specs.Ends.{EndsWith}
 use Rattle.domain_list.specs.NameLaws.{order_is_total}
 use Rattle.domain_list.specs.Order.{canonical_order, SameLabels}
 use Rattle.domain_zone.specs.Cuts.{TellsCut, TellsCutBefore}
-use Rattle.domain_zone_laws.specs.Sorted.{ComesBefore, IsSorted}
-use Rattle.domain_zone_laws.specs.Zone.{Zone, RRset, IsZone, IsAt, IsCut, HasNoCut, IsFirstCut, IsDataType, NS, NSEC3}
-use Rattle.domain_zone_laws.proofs.Ending.{ends_itself, same_ends, ends_after, ends_same, same_then, both_ends, ends_linear}
-use Rattle.domain_zone_laws.proofs.Neighbours.{not_less, not_greater}
-use Rattle.domain_zone_laws.proofs.Places.{both_ways, before_at, right_equal, same_default}
+use Rattle.domain_zone.specs.Sorted.{ComesBefore, IsSorted}
+use Rattle.domain_zone.specs.Zone.{Zone, RRset, IsZone, IsAt, IsCut, HasNoCut, IsFirstCut, IsDataType, NS, NSEC3}
+use Rattle.domain_zone.proofs.Ending.{ends_itself, same_ends, ends_after, ends_same, same_then, both_ends, ends_linear}
+use Rattle.domain_zone.proofs.NeighbourLaws.{not_less, not_greater}
+use Rattle.domain_zone.proofs.Places.{both_ways, before_at, right_equal, same_default}
 
 abbrev Names : Type 0
 Names = List (List ℕ)

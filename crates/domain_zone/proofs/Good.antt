@@ -19,14 +19,14 @@ use Rattle.domain_zone.specs.declared.fault.RrsetFault.{RrsetFault}
 use Rattle.domain_zone.specs.declared.fault.RrsetFault.TheVariants.{OutOfZone, NotDataType, NoRecords, DataOrder, Soa, Target, Wildcard, BesideCname, AboveRecords, DnameAtCut}
 use Rattle.domain_zone.specs.declared.fault.ZoneFault.{ZoneFault}
 use Rattle.domain_zone.specs.declared.fault.ZoneFault.TheVariants as fault
-use Rattle.domain_zone_laws.specs.Sorted.{IsSorted, ComesBefore}
-use Rattle.domain_zone_laws.specs.Views.{rrset, zone_of}
-use Rattle.domain_zone_laws.specs.Zone.{Zone, RRset, IsZone, IsAt, HasType, IsDataType, AllDiffer, MayBeBesideCname, NS, CNAME, SOA, DNAME, DS, NSEC3, source_of_synthesis}
-use Rattle.domain_zone_laws.specs.declared.zone.Rrset.{Rrset}
-use Rattle.domain_zone_laws.specs.declared.zone.ZoneRecords.{ZoneRecords}
-use Rattle.domain_zone_laws.proofs.Ending.{ends_itself, ends_after, ends_same, same_then, both_ends}
-use Rattle.domain_zone_laws.proofs.Nodes.{has_same, cut_same}
-use Rattle.domain_zone_laws.proofs.Places.{not_before_itself, same_default, view_at}
+use Rattle.domain_zone.specs.Sorted.{IsSorted, ComesBefore}
+use Rattle.domain_zone.specs.Views.{rrset, zone_of}
+use Rattle.domain_zone.specs.Zone.{Zone, RRset, IsZone, IsAt, HasType, IsDataType, AllDiffer, MayBeBesideCname, NS, CNAME, SOA, DNAME, DS, NSEC3, source_of_synthesis}
+use Rattle.domain_zone.specs.declared.zone.Rrset.{Rrset}
+use Rattle.domain_zone.specs.declared.zone.ZoneRecords.{ZoneRecords}
+use Rattle.domain_zone.proofs.Ending.{ends_itself, ends_after, ends_same, same_then, both_ends}
+use Rattle.domain_zone.proofs.Nodes.{has_same, cut_same}
+use Rattle.domain_zone.proofs.Places.{not_before_itself, same_default, view_at}
 
 first_same : {A : Type 0} (x y : A) (xs ys : List A) → x ∷ xs ≡ y ∷ ys → x ≡ y
 first_same x y xs ys e = cc

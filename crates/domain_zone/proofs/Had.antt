@@ -20,12 +20,12 @@ use Rattle.domain_zone.specs.Cuts.{TellsCut, TellsCuts}
 use Rattle.domain_zone.specs.Faults.{IsCanonical}
 use Rattle.domain_zone.specs.Records.{records_view}
 use Rattle.domain_zone.proofs.Good.{apart_from}
-use Rattle.domain_zone_laws.specs.Sorted.{ComesBefore, IsSorted}
-use Rattle.domain_zone_laws.specs.Zone.{Zone, RRset, IsZone, IsAt, HasNoCut, IsFirstCut, IsDataType, IsOneName, MayBeBesideCname, NS, CNAME, SOA, KEY, OPT, RRSIG, NSEC, source_of_synthesis}
-use Rattle.domain_zone_laws.proofs.Deciding.{Decided, dec_number, dec_same, dec_ends, dec_and, dec_some}
-use Rattle.domain_zone_laws.proofs.Ending.{ends_same}
-use Rattle.domain_zone_laws.proofs.Nodes.{dec_has, dec_not, cut_same, first_cut, one_cut}
-use Rattle.domain_zone_laws.specs.declared.zone.ZoneRecords.{ZoneRecords}
+use Rattle.domain_zone.specs.Sorted.{ComesBefore, IsSorted}
+use Rattle.domain_zone.specs.Zone.{Zone, RRset, IsZone, IsAt, HasNoCut, IsFirstCut, IsDataType, IsOneName, MayBeBesideCname, NS, CNAME, SOA, KEY, OPT, RRSIG, NSEC, source_of_synthesis}
+use Rattle.domain_zone.proofs.Deciding.{Decided, dec_number, dec_same, dec_ends, dec_and, dec_some}
+use Rattle.domain_zone.proofs.Ending.{ends_same}
+use Rattle.domain_zone.proofs.Nodes.{dec_has, dec_not, cut_same, first_cut, one_cut}
+use Rattle.domain_zone.specs.declared.zone.ZoneRecords.{ZoneRecords}
 
 -- ---- decisions
 

@@ -8,9 +8,9 @@ use Rattle.domain_list.specs.Ends.{EndsWith}
 use Rattle.domain_list.specs.NameLaws.{before_absolute}
 use Rattle.domain_list.specs.Order.{SameLabels}
 use Rattle.domain_zone.specs.Outcomes.{IsRedirection}
-use Rattle.domain_zone_laws.specs.Answers.{Outcome, out_of_zone, referral, found, redirect, too_long, synthesized, name_error, Answers, IsReferred, IsNonexistent, substitution}
-use Rattle.domain_zone_laws.specs.Zone.{Zone, RRset, IsZone, IsAt, IsFirstCut, Exists, DNAME, DS, source_of_synthesis}
-use Rattle.domain_zone_laws.proofs.Nodes.{one_cut}
+use Rattle.domain_zone.specs.Answers.{Outcome, out_of_zone, referral, found, redirect, too_long, synthesized, name_error, Answers, IsReferred, IsNonexistent, substitution}
+use Rattle.domain_zone.specs.Zone.{Zone, RRset, IsZone, IsAt, IsFirstCut, Exists, DNAME, DS, source_of_synthesis}
+use Rattle.domain_zone.proofs.Nodes.{one_cut}
 
 -- the DS of a cut is asked for
 pub no_referral_at_cut : (z : Zone) (q c : List (List ℕ)) (t : ℕ) → IsFirstCut z q c → t ≡ DS → SameLabels q c → (s : RRset) → IsReferred z q t s → ⊥

@@ -10,10 +10,10 @@ use Rattle.domain_list.specs.Ancestors.{OrderDecidesEquality, DescendantsAreAdja
 use Rattle.domain_list.specs.Ends.{EndsWith}
 use Rattle.domain_list.specs.NameLaws.{order_is_total}
 use Rattle.domain_zone.specs.Faults.{IsLeaf}
-use Rattle.domain_zone_laws.specs.Sorted.{ComesBefore, IsSorted, IsPlace}
-use Rattle.domain_zone_laws.specs.Zone.{Zone, RRset}
+use Rattle.domain_zone.specs.Sorted.{ComesBefore, IsSorted, IsPlace}
+use Rattle.domain_zone.specs.Zone.{Zone, RRset}
 use Rattle.domain_list.specs.Order.{canonical_order, SameLabels}
-use Rattle.domain_zone_laws.proofs.Places.{same_default}
+use Rattle.domain_zone.proofs.Places.{same_default}
 
 less_greater : Less ≡ Greater → ⊥
 less_greater e = cc

@@ -1,3 +1,14 @@
+pub mod Ending
+pub mod Deciding
+pub mod Nodes
+pub mod Total
+pub mod Underneath
+pub mod Lists
+pub mod Cuts
+pub mod Places
+pub mod NeighbourLaws
+pub mod Evaluating
+pub mod ReadingTypes
 pub mod Adding
 pub mod Ascending
 pub mod Chains

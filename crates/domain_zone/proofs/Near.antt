@@ -9,11 +9,11 @@ use Rattle.domain_list.specs.Ends.{EndsWith}
 use Rattle.domain_list.specs.Order.{canonical_order, SameLabels}
 use Rattle.std.specs.declared.cmp.Ordering.TheVariants.{Less, Equal}
 use Rattle.domain_zone.specs.Cuts.{TellsCut, IsUnderCutsOf}
-use Rattle.domain_zone_laws.specs.Sorted.{ComesBefore, IsSorted, IsPlace, IsLastBefore}
-use Rattle.domain_zone_laws.specs.Zone.{Zone, RRset, IsZone, IsAt, IsCut, HasNoCut, IsFirstCut, NS, DNAME}
-use Rattle.domain_zone_laws.proofs.Ending.{ends_itself, ends_after, ends_same, same_ends}
-use Rattle.domain_zone_laws.proofs.Neighbours.{before_place, not_less, not_greater, no_more}
-use Rattle.domain_zone_laws.proofs.Places.{reaches_below, same_default}
+use Rattle.domain_zone.specs.Sorted.{ComesBefore, IsSorted, IsPlace, IsLastBefore}
+use Rattle.domain_zone.specs.Zone.{Zone, RRset, IsZone, IsAt, IsCut, HasNoCut, IsFirstCut, NS, DNAME}
+use Rattle.domain_zone.proofs.Ending.{ends_itself, ends_after, ends_same, same_ends}
+use Rattle.domain_zone.proofs.NeighbourLaws.{before_place, not_less, not_greater, no_more}
+use Rattle.domain_zone.proofs.Places.{reaches_below, same_default}
 
 -- the RRset at the place of a name that exists
 pub near_below : (z : Zone) (q : List (List ℕ)) (i : ℕ) → i < length z.rrsets → ((d : RRset) → EndsWith (slice_index_or z.rrsets i d).owner q) → IsUnderCutsOf z q i

@@ -7,11 +7,11 @@ use Rattle.domain_label.specs.Wire.{IsAbsoluteName}
 use Rattle.domain_list.specs.Ancestors.{DescendantsAreAdjacent, ParentIsFirst}
 use Rattle.domain_list.specs.Ends.{EndsWith}
 use Rattle.domain_zone.specs.Neighbours.{IsBeside}
-use Rattle.domain_zone_laws.specs.Sorted.{IsSorted, IsPlace}
-use Rattle.domain_zone_laws.specs.Zone.{Zone, RRset, IsZone, HasType, Exists}
-use Rattle.domain_zone_laws.proofs.Ending.{same_ends, same_then}
-use Rattle.domain_zone_laws.proofs.Neighbours.{tell_encloser}
-use Rattle.domain_zone_laws.proofs.Places.{reaches_below}
+use Rattle.domain_zone.specs.Sorted.{IsSorted, IsPlace}
+use Rattle.domain_zone.specs.Zone.{Zone, RRset, IsZone, HasType, Exists}
+use Rattle.domain_zone.proofs.Ending.{same_ends, same_then}
+use Rattle.domain_zone.proofs.NeighbourLaws.{tell_encloser}
+use Rattle.domain_zone.proofs.Places.{reaches_below}
 
 -- what an RRset is at or below exists
 pub exists_below : (z : Zone) (i : ℕ) (a : List (List ℕ)) → EndsWith a z.apex → (d : RRset) → i < length z.rrsets → ((d : RRset) → EndsWith (slice_index_or z.rrsets i d).owner a) → Exists z a

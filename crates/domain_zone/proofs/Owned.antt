@@ -9,8 +9,8 @@ use Rattle.domain_list.specs.Order.{SameLabels}
 use Rattle.domain_zone.specs.Kept.{OwnedBy}
 use Rattle.domain_zone.proofs.Good.{small_type}
 use Rattle.domain_zone.proofs.Had.{less_equal}
-use Rattle.domain_zone_laws.specs.Sorted.{ComesBefore, IsPlace}
-use Rattle.domain_zone_laws.specs.Zone.{Zone, RRset, IsZone}
+use Rattle.domain_zone.specs.Sorted.{ComesBefore, IsPlace}
+use Rattle.domain_zone.specs.Zone.{Zone, RRset, IsZone}
 
 -- no type of a zone is 65,535
 pub small_types : (z : Zone) → IsZone z → All (λ s. s.rtype < 65535) z.rrsets

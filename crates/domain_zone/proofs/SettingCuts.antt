@@ -6,9 +6,9 @@ use Rattle.std.proofs.lemmas.List.{get_or-set_same, get_or-set_other, length-set
 use Rattle.domain_name.specs.Names.{name_labels}
 use Rattle.domain_zone.specs.Cuts.{TellsCut, TellsCutBefore}
 use Rattle.domain_zone.specs.Records.{set_view}
-use Rattle.domain_zone_laws.specs.Views.{rrset}
-use Rattle.domain_zone_laws.specs.Zone.{Zone, RRset}
-use Rattle.domain_zone_laws.specs.declared.zone.Rrset.{Rrset}
+use Rattle.domain_zone.specs.Views.{rrset}
+use Rattle.domain_zone.specs.Zone.{Zone, RRset}
+use Rattle.domain_zone.specs.declared.zone.Rrset.{Rrset}
 use Rattle.octseq.specs.declared.octets.Octets.{Ghosts}
 use Rattle.domain_name.specs.declared.absolute.Name.{Name}
 

@@ -7,8 +7,8 @@ use Rattle.domain_label.specs.Wire.{wire, IsAbsolute, IsAbsoluteName}
 use Rattle.domain_list.proofs.SuffixBySize.{front_size}
 use Rattle.domain_list.specs.Chains.{before_root}
 use Rattle.domain_list.specs.NameLaws.{before_absolute}
-use Rattle.domain_zone_laws.proofs.Nodes.{exists_same}
-use Rattle.domain_zone_laws.specs.Zone.{Zone, Exists, IsClosestEncloser, source_of_synthesis}
+use Rattle.domain_zone.proofs.Nodes.{exists_same}
+use Rattle.domain_zone.specs.Zone.{Zone, Exists, IsClosestEncloser, source_of_synthesis}
 
 abbrev Names : Type 0
 Names = List (List ℕ)

@@ -12,7 +12,7 @@ use Rattle.domain_zone.specs.declared.building.BuildError.TheVariants as build
 use Rattle.domain_zone.specs.declared.building.InsertError.{InsertError}
 use Rattle.domain_zone.specs.declared.building.InsertError.TheVariants as insert
 use Rattle.domain_zone.specs.declared.building.ZoneBuilder.{ZoneBuilder}
-use Rattle.domain_zone_laws.specs.Zone.{Zone, NSEC3, IsDataType}
+use Rattle.domain_zone.specs.Zone.{Zone, NSEC3, IsDataType}
 
 -- The records that were inserted, one after another.
 abbrev pub inserted : ZoneBuilder → List Inserted

@@ -6,8 +6,8 @@ use Rattle.std.specs.Ordering.{nat_cmp, ordering_then}
 use Rattle.std.specs.declared.cmp.Ordering.{Ordering}
 use Rattle.domain_list.specs.Order.{canonical_order, SameLabels}
 use Rattle.domain_zone.specs.Faults.{IsAscending}
-use Rattle.domain_zone_laws.specs.Zone.{Zone, RRset, RRSIG, covered_type}
-use Rattle.domain_zone_laws.specs.declared.zone.SignatureTtl.{SignatureTtl}
+use Rattle.domain_zone.specs.Zone.{Zone, RRset, RRSIG, covered_type}
+use Rattle.domain_zone.specs.declared.zone.SignatureTtl.{SignatureTtl}
 
 -- A record: its owner, its type, how many seconds it may be kept, and the octets of its data.
 pub record Inserted : Type 0 where

@@ -6,8 +6,8 @@ use Rattle.domain_list.specs.Ends.{EndsWith}
 use Rattle.domain_name.specs.Names.{name_labels}
 use Rattle.domain_name.specs.declared.absolute.Name.{Name}
 use Rattle.domain_zone.specs.Records.{records_view}
-use Rattle.domain_zone_laws.specs.Zone.{Zone, RRset, IsCut, HasNoCut, IsFirstCut, NS}
-use Rattle.domain_zone_laws.specs.declared.zone.ZoneRecords.{ZoneRecords}
+use Rattle.domain_zone.specs.Zone.{Zone, RRset, IsCut, HasNoCut, IsFirstCut, NS}
+use Rattle.domain_zone.specs.declared.zone.ZoneRecords.{ZoneRecords}
 
 -- The number c tells the first cut on the way from the apex down to n (RFC 1034, 4.2.1 and 4.3.2, step 3b): the RRset
 -- at this index has its name servers. There is none on the way where c is no index.

@@ -6,8 +6,8 @@ use Rattle.std.specs.Ordering.{nat_cmp}
 use Rattle.std.specs.declared.cmp.Ordering.TheVariants.{Less}
 use Rattle.domain_list.specs.Ends.{StartsWith, EndsWith}
 use Rattle.domain_list.specs.Order.{SameLabels}
-use Rattle.domain_zone_laws.specs.Sorted.{IsSorted}
-use Rattle.domain_zone_laws.specs.Zone.{Zone, RRset, NS, CNAME, SOA, DNAME, DS, NSEC3, IsDataType, HasType, IsCut, IsOneName, MayBeBesideCname}
+use Rattle.domain_zone.specs.Sorted.{IsSorted}
+use Rattle.domain_zone.specs.Zone.{Zone, RRset, NS, CNAME, SOA, DNAME, DS, NSEC3, IsDataType, HasType, IsCut, IsOneName, MayBeBesideCname}
 use Rattle.domain_zone.specs.declared.fault.RrsetFault.{RrsetFault}
 use Rattle.domain_zone.specs.declared.fault.RrsetFault.TheVariants.{OutOfZone, NotDataType, NoRecords, DataOrder, Soa, Target, Wildcard, BesideCname, AboveRecords, DnameAtCut}
 use Rattle.domain_zone.specs.declared.fault.ZoneFault.{ZoneFault}

@@ -1,6 +1,6 @@
 -- What the header of a response says of an outcome.
 use Rattle.std.specs.Prelude.{ℕ, ⊤}
-use Rattle.domain_zone_laws.specs.Answers.{Outcome, out_of_zone, referral, found, redirect, too_long, synthesized, name_error}
+use Rattle.domain_zone.specs.Answers.{Outcome, out_of_zone, referral, found, redirect, too_long, synthesized, name_error}
 
 -- The zone has authority over the name: the AA bit (RFC 1035, 4.1.1; RFC 1034, 4.3.2).
 abbrev pub HasAuthority : Outcome → Type 0

@@ -5,7 +5,7 @@ use Rattle.domain_header.specs.declared.class.Class.{Class}
 use Rattle.domain_list.specs.Order.{SameLabels}
 use Rattle.domain_zone.specs.Records.{records_view}
 use Rattle.domain_zone.specs.declared.kept.Zone as code
-use Rattle.domain_zone_laws.specs.Zone.{Zone, RRset}
+use Rattle.domain_zone.specs.Zone.{Zone, RRset}
 
 -- Its apex and its RRsets.
 abbrev pub zone_view : code.Zone → Zone

@@ -1,3 +1,10 @@
+pub mod Zone
+pub mod Answers
+pub mod Laws
+pub mod Sorted
+pub mod NeighbourLaws
+pub mod Views
+pub mod Examples
 pub mod Builders
 pub mod Building
 pub mod Cuts

@@ -1,7 +1,7 @@
 -- Names that a zone lacks.
 use Rattle.std.specs.Prelude.{◌≡◌, ℕ, List}
 use Rattle.domain_list.specs.Ends.{EndsWith}
-use Rattle.domain_zone_laws.specs.Zone.{Zone, Exists, IsClosestEncloser, source_of_synthesis}
+use Rattle.domain_zone.specs.Zone.{Zone, Exists, IsClosestEncloser, source_of_synthesis}
 
 -- The name q is in the zone, and doesn't exist.
 abbrev pub IsMissing : Zone → List (List ℕ) → Type 0

@@ -1,7 +1,7 @@
 -- What the two RRsets beside a place tell of a name.
 use Rattle.std.specs.Prelude.{ℕ, ◌<◌, ◌-◌, ◌⊎◌, List, length, slice_index_or}
 use Rattle.domain_list.specs.Ends.{EndsWith}
-use Rattle.domain_zone_laws.specs.Zone.{Zone, RRset}
+use Rattle.domain_zone.specs.Zone.{Zone, RRset}
 
 -- The name a is in the zone, and the RRset at i or the one before it is at or below a.
 abbrev pub IsBeside : Zone → ℕ → List (List ℕ) → Type 0

@@ -5,9 +5,9 @@ use Rattle.domain_list.specs.ChainParts.{left_part, right_part}
 use Rattle.domain_name.specs.Names.{name_labels, relative_labels}
 use Rattle.domain_zone.specs.declared.lookup.outcome.Answer.{Answer}
 use Rattle.domain_zone.specs.declared.lookup.outcome.Answer.TheVariants as variants
-use Rattle.domain_zone_laws.specs.Answers.{Outcome, out_of_zone, referral, found, redirect, too_long, synthesized, name_error, substitution}
-use Rattle.domain_zone_laws.specs.Views.{rrset, reply_of}
-use Rattle.domain_zone_laws.specs.Zone.{RRset}
+use Rattle.domain_zone.specs.Answers.{Outcome, out_of_zone, referral, found, redirect, too_long, synthesized, name_error, substitution}
+use Rattle.domain_zone.specs.Views.{rrset, reply_of}
+use Rattle.domain_zone.specs.Zone.{RRset}
 
 -- The outcome that an answer tells.
 abbrev pub outcome_of : Answer → Outcome

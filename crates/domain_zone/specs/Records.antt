@@ -2,10 +2,10 @@
 use Rattle.octseq.specs.declared.octets.Octets.{Ghosts}
 use Rattle.domain_name.specs.Names.{name_labels}
 use Rattle.domain_name.specs.declared.absolute.Name.{Name}
-use Rattle.domain_zone_laws.specs.Views.{rrset, zone_of}
-use Rattle.domain_zone_laws.specs.Zone.{Zone, RRset}
-use Rattle.domain_zone_laws.specs.declared.zone.Rrset.{Rrset}
-use Rattle.domain_zone_laws.specs.declared.zone.ZoneRecords.{ZoneRecords}
+use Rattle.domain_zone.specs.Views.{rrset, zone_of}
+use Rattle.domain_zone.specs.Zone.{Zone, RRset}
+use Rattle.domain_zone.specs.declared.zone.Rrset.{Rrset}
+use Rattle.domain_zone.specs.declared.zone.ZoneRecords.{ZoneRecords}
 
 -- The apex and the RRsets.
 abbrev pub records_view : {O : Type 0} {g : Ghosts O} → ZoneRecords (Name O g) → Zone

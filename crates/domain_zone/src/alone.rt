@@ -6,13 +6,13 @@ ghost use Rattle.std.specs.declared.cmp.Ordering.TheVariants.{Less};
 ghost use Rattle.domain_name.specs.Names.{name_labels};
 ghost use Rattle.domain_zone.specs.Faults.{Demand, IsAscending, IsSound, IsWildcard};
 ghost use Rattle.domain_zone.specs.Records.{records_view, set_view};
-ghost use Rattle.domain_zone_laws.specs.Zone.{IsDataType, IsOneName, CNAME, DNAME, NSEC3};
+ghost use Rattle.domain_zone.specs.Zone.{IsDataType, IsOneName, CNAME, DNAME, NSEC3};
 
 use crate::fault::RrsetFault;
 use crate::names::Owner;
 use domain_list::comparing::eq_names;
 use domain_name::{Name, RelativeName};
-use domain_zone_laws::zone::{Rrset, ZoneRecords};
+use crate::zone::{Rrset, ZoneRecords};
 use std::cmp::Ordering;
 
 /// Whether a type is one of data that a zone can have.

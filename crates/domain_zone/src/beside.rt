@@ -4,16 +4,16 @@ ghost use Rattle.std.specs.List.{All};
 ghost use Rattle.domain_name.specs.Names.{name_labels};
 ghost use Rattle.domain_zone.specs.Faults.{Demand, IsFitting, IsLeaf};
 ghost use Rattle.domain_zone.specs.Records.{records_view, set_view};
-ghost use Rattle.domain_zone_laws.specs.Sorted.{IsSorted};
-ghost use Rattle.domain_zone_laws.specs.Zone.{HasType, IsCut, MayBeBesideCname};
+ghost use Rattle.domain_zone.specs.Sorted.{IsSorted};
+ghost use Rattle.domain_zone.specs.Zone.{HasType, IsCut, MayBeBesideCname};
 
 use crate::fault::RrsetFault;
 use crate::names::Owner;
 use domain_list::comparing::eq_names;
 use domain_list::ends::ends_with_labels;
 use domain_list::laws::order_laws;
-use domain_zone_laws::find::{find_at, place_of};
-use domain_zone_laws::zone::{Rrset, ZoneRecords};
+use crate::find::{find_at, place_of};
+use crate::zone::{Rrset, ZoneRecords};
 
 /// Whether records of a type may be beside a CNAME.
 fn may_be_beside_cname(rtype: u16) -> bool

@@ -3,16 +3,16 @@ ghost use Rattle.std.specs.Prelude.{◌<◌, MatchOption};
 ghost use Rattle.std.specs.List.{All};
 ghost use Rattle.domain_zone.specs.Faults.{HasFault, IsCanonical, IsFitting, IsSound};
 ghost use Rattle.domain_zone.specs.Records.{records_view};
-ghost use Rattle.domain_zone_laws.specs.Sorted.{IsSorted};
-ghost use Rattle.domain_zone_laws.specs.Zone.{IsZone};
+ghost use Rattle.domain_zone.specs.Sorted.{IsSorted};
+ghost use Rattle.domain_zone.specs.Zone.{IsZone};
 
 use crate::alone::fault_alone;
 use crate::beside::{fault_beside, has_type};
 use crate::fault::ZoneFault;
 use crate::names::Owner;
 use domain_list::laws::order_laws;
-use domain_zone_laws::sorted::is_sorted;
-use domain_zone_laws::zone::ZoneRecords;
+use crate::sorted::is_sorted;
+use crate::zone::ZoneRecords;
 
 /// A fault of an RRset that can't be in the zone, whatever the others are.
 fn first_fault_alone(records: &ZoneRecords<Owner>) -> Option<ZoneFault>

@@ -4,8 +4,8 @@ ghost use Rattle.domain_list.specs.Ends.{EndsWith};
 ghost use Rattle.domain_name.specs.Names.{name_labels};
 ghost use Rattle.domain_zone.specs.Cuts.{TellsCut, TellsCutBefore, TellsCuts};
 ghost use Rattle.domain_zone.specs.Records.{records_view};
-ghost use Rattle.domain_zone_laws.specs.Sorted.{IsSorted};
-ghost use Rattle.domain_zone_laws.specs.Zone.{RRset, IsZone};
+ghost use Rattle.domain_zone.specs.Sorted.{IsSorted};
+ghost use Rattle.domain_zone.specs.Zone.{RRset, IsZone};
 
 use crate::merging::is_taken;
 use crate::names::Owner;
@@ -13,7 +13,7 @@ use domain_list::ToLabelIter;
 use domain_list::comparing::eq_names;
 use domain_list::ends::ends_with_labels;
 use domain_list::laws::order_laws;
-use domain_zone_laws::zone::ZoneRecords;
+use crate::zone::ZoneRecords;
 
 /// Whether the RRset at an index is at or above a name.
 pub(crate) fn is_above_at<'a, M: ToLabelIter<'a>>(

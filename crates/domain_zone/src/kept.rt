@@ -2,7 +2,7 @@
 ghost use Rattle.domain_zone.specs.Cuts.{TellsCuts};
 ghost use Rattle.domain_zone.specs.Faults.{IsCanonical};
 ghost use Rattle.domain_zone.specs.Records.{records_view};
-ghost use Rattle.domain_zone_laws.specs.Zone.{IsZone};
+ghost use Rattle.domain_zone.specs.Zone.{IsZone};
 
 use crate::checking::find_fault;
 use crate::cuts::with_cuts;
@@ -11,8 +11,8 @@ use crate::names::Owner;
 use domain_header::Class;
 use domain_list::ToLabelIter;
 use domain_list::laws::order_laws;
-use domain_zone_laws::find::{find_at, place_of};
-use domain_zone_laws::zone::{Rrset, ZoneRecords};
+use crate::find::{find_at, place_of};
+use crate::zone::{Rrset, ZoneRecords};
 
 /// A zone: an apex and the RRsets at and below it, in canonical order (RFC 1034, 4.2.1; RFC 4034, 6.1).
 ///
@@ -33,7 +33,7 @@ impl Zone {
     ghost use Rattle.domain_zone.specs.Faults.{HasFault};
     ghost use Rattle.domain_zone.specs.Kept.{zone_view, zone_class, OwnedBy};
     ghost use Rattle.domain_zone.specs.Records.{set_view};
-    ghost use Rattle.domain_zone_laws.specs.Zone.{HasType, IsAt};
+    ghost use Rattle.domain_zone.specs.Zone.{HasType, IsAt};
 
     /// The zone of these records, all of one class.
     ///

@@ -1,17 +1,25 @@
-//! A zone that is kept, records that are known to be a zone in canonical order, and what it answers to a question.
+//! A zone: what it is and what it answers, records that were tested once to be one, and lookups.
 #![tactic(auto)]
 
 mod alone;
 mod beside;
 mod building;
 mod checking;
+pub mod cut;
 mod cuts;
 mod entry;
 mod fault;
+pub mod find;
 mod kept;
+pub mod laws;
 mod lookup;
 mod merging;
 mod names;
+pub mod reading;
+pub mod reply;
+pub mod sorted;
+pub mod ttl;
+pub mod zone;
 
 pub use building::{BuildError, InsertError, ZoneBuilder};
 pub use checking::find_fault;

@@ -7,9 +7,9 @@ ghost use Rattle.domain_zone.specs.Kept.{zone_view};
 ghost use Rattle.domain_zone.specs.Missing.{IsMissing, IsSourceFor};
 ghost use Rattle.domain_zone.specs.Outcomes.{outcome_of};
 ghost use Rattle.domain_zone.specs.Records.{records_view};
-ghost use Rattle.domain_zone_laws.specs.Answers.{Answers};
-ghost use Rattle.domain_zone_laws.specs.Sorted.{IsSorted};
-ghost use Rattle.domain_zone_laws.specs.Zone.{IsZone};
+ghost use Rattle.domain_zone.specs.Answers.{Answers};
+ghost use Rattle.domain_zone.specs.Sorted.{IsSorted};
+ghost use Rattle.domain_zone.specs.Zone.{IsZone};
 
 mod encloser;
 mod nonexistent;
@@ -22,9 +22,9 @@ use crate::lookup::nonexistent::lookup_nonexistent;
 use crate::names::Owner;
 use domain_list::laws::order_laws;
 use domain_name::Name;
-use domain_zone_laws::find::place_of;
-use domain_zone_laws::reply::reply_from;
-use domain_zone_laws::zone::ZoneRecords;
+use crate::find::place_of;
+use crate::reply::reply_from;
+use crate::zone::ZoneRecords;
 pub use encloser::{Wildcard, source_of_synthesis};
 pub use outcome::{Answer, Substitution};
 

@@ -7,15 +7,15 @@ ghost use Rattle.domain_zone.specs.Building.{entry_order, one_record, signature_
 ghost use Rattle.domain_zone.specs.Entries.{entry_view};
 ghost use Rattle.domain_zone.specs.Faults.{IsAscending, IsCanonical};
 ghost use Rattle.domain_zone.specs.Records.{records_view, set_view};
-ghost use Rattle.domain_zone_laws.specs.Zone.{RRset};
+ghost use Rattle.domain_zone.specs.Zone.{RRset};
 
 use crate::entry::Entry;
 use crate::names::Owner;
 use domain_list::comparing::{eq_names, order_names};
 use domain_list::laws::order_laws;
-use domain_zone_laws::find::place_of;
-use domain_zone_laws::ttl::covered_type;
-use domain_zone_laws::zone::{Rrset, SignatureTtl, ZoneRecords};
+use crate::find::place_of;
+use crate::ttl::covered_type;
+use crate::zone::{Rrset, SignatureTtl, ZoneRecords};
 use std::alloc::{AllocError, Global};
 use std::cmp::Ordering;
 

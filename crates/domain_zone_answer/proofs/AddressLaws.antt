@@ -16,8 +16,8 @@ use Rattle.domain_list.specs.Ancestors.{OrderDecidesEquality}
 use Rattle.domain_list.specs.Ends.{EndsWith}
 use Rattle.domain_list.specs.NameLaws.{same_lowercase}
 use Rattle.domain_list.specs.Order.{same_name, SameLabels}
-use Rattle.domain_zone_laws.specs.Sorted.{ComesBefore, IsSorted}
-use Rattle.domain_zone_laws.specs.Zone.{Zone, RRset, IsZone, IsAt, HasType}
+use Rattle.domain_zone.specs.Sorted.{ComesBefore, IsSorted}
+use Rattle.domain_zone.specs.Zone.{Zone, RRset, IsZone, IsAt, HasType}
 use Rattle.domain_zone_answer.proofs.Filtering.{filter_none, filter_one}
 use Rattle.domain_zone_answer.specs.Addresses.{is_at_data}
 

@@ -9,9 +9,9 @@ use Rattle.domain_zone.specs.Records.{set_view}
 use Rattle.domain_zone_answer.proofs.AddressLaws.{none_at, one_at}
 use Rattle.domain_zone_answer.specs.Addresses.{is_at_data}
 use Rattle.domain_zone_answer.specs.Sets.{set_list}
-use Rattle.domain_zone_laws.specs.Sorted.{IsSorted}
-use Rattle.domain_zone_laws.specs.Zone.{Zone, IsAt, HasType}
-use Rattle.domain_zone_laws.specs.declared.zone.Rrset.{Rrset}
+use Rattle.domain_zone.specs.Sorted.{IsSorted}
+use Rattle.domain_zone.specs.Zone.{Zone, IsAt, HasType}
+use Rattle.domain_zone.specs.declared.zone.Rrset.{Rrset}
 
 pub listed : {O : Type 0} {g : Ghosts O} (z : Zone) → OrderDecidesEquality → IsSorted z → (t : ℕ) (o : List ℕ) → wire (labels_in o) ≡ o → (r : Option (Bor (Rrset (Name O g))))
     → MatchOption r (HasType z (labels_in o) t → ⊥) (λ s. IsAt z (labels_in o) t (set_view s.now)) → set_list r ≡ filter (is_at_data t o) z.rrsets

@@ -5,8 +5,8 @@ use Rattle.std.specs.declared.cmp.Ordering.TheVariants.{Less, Equal}
 use Rattle.std.proofs.Math.Nat.{eq-or-lt_of_le}
 use Rattle.domain_list.specs.Ancestors.{OrderDecidesEquality}
 use Rattle.domain_list.specs.Order.{SameLabels}
-use Rattle.domain_zone_laws.specs.Sorted.{ComesBefore, IsSorted, IsPlace}
-use Rattle.domain_zone_laws.specs.Zone.{Zone, RRset}
+use Rattle.domain_zone.specs.Sorted.{ComesBefore, IsSorted, IsPlace}
+use Rattle.domain_zone.specs.Zone.{Zone, RRset}
 
 not_below : (i k : ℕ) → (k < i → ⊥) → i ≤ k
 not_below i k n = omega (arith, n)

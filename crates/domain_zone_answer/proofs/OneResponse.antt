@@ -4,9 +4,9 @@ use Rattle.domain_label.specs.Lowercase.{lowercase}
 use Rattle.domain_list.specs.Order.{SameLabels}
 use Rattle.domain_zone_answer.proofs.SoaLaws.{one_minimum}
 use Rattle.domain_zone_answer.specs.Sections.{Sections, owned_by, IsChosen, IsReply, IsZoneAnswer, synthesized_cnames, IsAnswerSection, HasMinimum, IsNegativeTtl, IsNegativeSoa, IsDenial, IsAuthoritySection, AreSections}
-use Rattle.domain_zone_laws.proofs.Nodes.{one_encloser}
-use Rattle.domain_zone_laws.specs.Answers.{Reply, records, any_types, alias, no_data, Outcome, out_of_zone, referral, found, redirect, too_long, synthesized, name_error}
-use Rattle.domain_zone_laws.specs.Zone.{Zone, RRset, SOA, IsZone, source_of_synthesis}
+use Rattle.domain_zone.proofs.Nodes.{one_encloser}
+use Rattle.domain_zone.specs.Answers.{Reply, records, any_types, alias, no_data, Outcome, out_of_zone, referral, found, redirect, too_long, synthesized, name_error}
+use Rattle.domain_zone.specs.Zone.{Zone, RRset, SOA, IsZone, source_of_synthesis}
 
 -- ---- the answer section
 

@@ -2,11 +2,11 @@
 use Rattle.std.proofs.Common.{◌≡◌, ℕ, List, [], ◌∷◌, refl, ap, subst}
 use Rattle.domain_label.specs.Lowercase.{lowercase}
 use Rattle.domain_list.specs.Ends.{EndsWith}
-use Rattle.domain_zone_laws.proofs.Ending.{ends_after}
-use Rattle.domain_zone_laws.proofs.Nodes.{one_encloser, owns_same}
-use Rattle.domain_zone_laws.specs.Answers.{Reply, records, any_types, alias, synthesized, Answers, Replies}
+use Rattle.domain_zone.proofs.Ending.{ends_after}
+use Rattle.domain_zone.proofs.Nodes.{one_encloser, owns_same}
+use Rattle.domain_zone.specs.Answers.{Reply, records, any_types, alias, synthesized, Answers, Replies}
 use Rattle.domain_zone_answer.specs.Sections.{owned_by, IsChosen, IsZoneAnswer}
-use Rattle.domain_zone_laws.specs.Zone.{Zone, RRset, IsClosestEncloser, OwnsRecords, source_of_synthesis}
+use Rattle.domain_zone.specs.Zone.{Zone, RRset, IsClosestEncloser, OwnsRecords, source_of_synthesis}
 
 -- a name with a closest encloser is in the zone
 pub inside : (z : Zone) (q e : List (List ℕ)) → IsClosestEncloser z q e → EndsWith q z.apex

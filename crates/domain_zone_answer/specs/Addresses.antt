@@ -4,7 +4,7 @@ use Rattle.std.specs.List.{filter, flat_map}
 use Rattle.std.specs.Str.{bytes_eq}
 use Rattle.domain_label.specs.Wire.{wire, labels_in}
 use Rattle.domain_list.specs.Order.{same_name}
-use Rattle.domain_zone_laws.specs.Zone.{Zone, RRset}
+use Rattle.domain_zone.specs.Zone.{Zone, RRset}
 
 -- Types of addresses (RFC 1035, 3.4.1; RFC 3596, 2.1)
 abbrev pub A : ℕ

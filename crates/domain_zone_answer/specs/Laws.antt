@@ -1,8 +1,8 @@
 -- What holds of each response.
 use Rattle.std.specs.Prelude.{◌≡◌, ℕ, List}
 use Rattle.domain_zone_answer.specs.Sections.{Sections, AreSections}
-use Rattle.domain_zone_laws.specs.Answers.{Outcome, Answers}
-use Rattle.domain_zone_laws.specs.Zone.{Zone, IsZone}
+use Rattle.domain_zone.specs.Answers.{Outcome, Answers}
+use Rattle.domain_zone.specs.Zone.{Zone, IsZone}
 
 -- Two responses to a question to a zone have the same outcome and the same sections.
 abbrev pub HasOneResponse : Type 0

@@ -5,9 +5,9 @@ use Rattle.std.specs.Int.{w32, from_be_bytes}
 use Rattle.std.specs.List.{Contains}
 use Rattle.domain_label.specs.Wire.{wire, IsAbsoluteName}
 use Rattle.domain_list.specs.Order.{SameLabels}
-use Rattle.domain_zone_laws.specs.Answers.{Reply, records, any_types, alias, no_data}
-use Rattle.domain_zone_laws.specs.Answers.{Outcome, out_of_zone, referral, found, redirect, too_long, synthesized, name_error}
-use Rattle.domain_zone_laws.specs.Zone.{Zone, RRset, CNAME, SOA, IsAt, IsClosestEncloser, source_of_synthesis}
+use Rattle.domain_zone.specs.Answers.{Reply, records, any_types, alias, no_data}
+use Rattle.domain_zone.specs.Answers.{Outcome, out_of_zone, referral, found, redirect, too_long, synthesized, name_error}
+use Rattle.domain_zone.specs.Zone.{Zone, RRset, CNAME, SOA, IsAt, IsClosestEncloser, source_of_synthesis}
 use Rattle.domain_zone_answer.specs.Addresses.{addresses}
 
 -- The sections after the question (RFC 1034, 3.7).

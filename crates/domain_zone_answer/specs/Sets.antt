@@ -4,8 +4,8 @@ use Rattle.std.specs.Borrow.{Bor}
 use Rattle.octseq.specs.declared.octets.Octets.{Ghosts}
 use Rattle.domain_name.specs.declared.absolute.Name.{Name}
 use Rattle.domain_zone.specs.Records.{set_view}
-use Rattle.domain_zone_laws.specs.Zone.{RRset}
-use Rattle.domain_zone_laws.specs.declared.zone.Rrset.{Rrset}
+use Rattle.domain_zone.specs.Zone.{RRset}
+use Rattle.domain_zone.specs.declared.zone.Rrset.{Rrset}
 
 -- One RRset, or none.
 abbrev pub set_list : {O : Type 0} {g : Ghosts O} → Option (Bor (Rrset (Name O g))) → List RRset

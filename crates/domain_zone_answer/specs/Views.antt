@@ -5,8 +5,8 @@ use Rattle.domain_list.specs.ChainParts.{left_part, right_part}
 use Rattle.domain_name.specs.Names.{name_labels, relative_labels}
 use Rattle.domain_zone.specs.Kept.{zone_view}
 use Rattle.domain_zone.specs.Outcomes.{outcome_of}
-use Rattle.domain_zone_laws.specs.Answers.{Outcome}
-use Rattle.domain_zone_laws.specs.Zone.{RRset, CNAME}
+use Rattle.domain_zone.specs.Answers.{Outcome}
+use Rattle.domain_zone.specs.Zone.{RRset, CNAME}
 use Rattle.domain_zone_answer.specs.Sections.{Sections, synthesized_cnames, additional_section}
 use Rattle.domain_zone_answer.specs.declared.cname.SynthesizedCname.{SynthesizedCname}
 use Rattle.domain_zone_answer.specs.declared.response.Response.{Response}

@@ -9,8 +9,8 @@ use crate::section::SectionRrset;
 use domain_list::laws::order_laws;
 use domain_name::Name;
 use domain_zone::{Owner, Zone};
-use domain_zone_laws::find::find_at;
-use domain_zone_laws::zone::Rrset;
+use domain_zone::find::find_at;
+use domain_zone::zone::Rrset;
 
 /// The RRset of a type that the zone has at the name whose wire format the octets are.
 fn address<'a>(zone: &'a Zone, octets: &[u8], rtype: u16) -> Option<&'a Rrset<Owner>>

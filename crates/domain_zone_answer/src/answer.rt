@@ -3,10 +3,10 @@ ghost use Rattle.std.specs.Prelude.{ℕ};
 ghost use Rattle.domain_name.specs.Names.{name_labels};
 ghost use Rattle.domain_zone.specs.Outcomes.{outcome_of};
 ghost use Rattle.domain_zone.specs.Records.{records_view};
-ghost use Rattle.domain_zone_laws.specs.Answers.{Answers, found, synthesized};
-ghost use Rattle.domain_zone_laws.specs.Sorted.{IsSorted};
-ghost use Rattle.domain_zone_laws.specs.Views.{reply_of};
-ghost use Rattle.domain_zone_laws.specs.Zone.{IsZone};
+ghost use Rattle.domain_zone.specs.Answers.{Answers, found, synthesized};
+ghost use Rattle.domain_zone.specs.Sorted.{IsSorted};
+ghost use Rattle.domain_zone.specs.Views.{reply_of};
+ghost use Rattle.domain_zone.specs.Zone.{IsZone};
 ghost use Rattle.domain_zone_answer.specs.Sections.{IsZoneAnswer};
 ghost use Rattle.domain_zone_answer.specs.Views.{section_list};
 
@@ -14,8 +14,8 @@ use crate::encloser::{first_of_wildcard, first_rrset};
 use crate::section::SectionRrset;
 use domain_name::Name;
 use domain_zone::{Answer, Owner};
-use domain_zone_laws::reply::Reply;
-use domain_zone_laws::zone::ZoneRecords;
+use domain_zone::reply::Reply;
+use domain_zone::zone::ZoneRecords;
 
 /// The RRset of the answer section for what is found at a name that exists.
 fn answer_found<'a>(

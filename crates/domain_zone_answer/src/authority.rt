@@ -4,15 +4,15 @@ ghost use Rattle.domain_zone.specs.Outcomes.{outcome_of};
 ghost use Rattle.domain_zone.specs.Records.{records_view};
 ghost use Rattle.domain_zone_answer.specs.Sections.{IsDenial, IsAuthoritySection};
 ghost use Rattle.domain_zone_answer.specs.Views.{section_list};
-ghost use Rattle.domain_zone_laws.specs.Sorted.{IsSorted};
-ghost use Rattle.domain_zone_laws.specs.Views.{reply_of};
-ghost use Rattle.domain_zone_laws.specs.Zone.{IsZone};
+ghost use Rattle.domain_zone.specs.Sorted.{IsSorted};
+ghost use Rattle.domain_zone.specs.Views.{reply_of};
+ghost use Rattle.domain_zone.specs.Zone.{IsZone};
 
 use crate::section::SectionRrset;
 use crate::soa::negative_soa;
 use domain_zone::{Answer, Owner};
-use domain_zone_laws::reply::Reply;
-use domain_zone_laws::zone::ZoneRecords;
+use domain_zone::reply::Reply;
+use domain_zone::zone::ZoneRecords;
 
 /// The RRset of the authority section for what is found at a name.
 fn denial<'a>(records: &'a ZoneRecords<Owner>, reply: &Reply<'a, Owner>) -> Option<SectionRrset<'a>>

@@ -19,7 +19,7 @@ impl<'a> SynthesizedCname<'a> {
     ghost use Rattle.domain_list.specs.ChainParts.{left_part, right_part};
     ghost use Rattle.domain_name.specs.Names.{name_labels, relative_labels};
     ghost use Rattle.domain_zone_answer.specs.Views.{cname_view};
-    ghost use Rattle.domain_zone_laws.specs.Zone.{CNAME};
+    ghost use Rattle.domain_zone.specs.Zone.{CNAME};
 
     /// The CNAME from a name to another.
     pub(crate) fn new(

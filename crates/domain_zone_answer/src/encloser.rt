@@ -3,16 +3,16 @@ ghost use Rattle.std.specs.Prelude.{ℕ, List};
 ghost use Rattle.domain_name.specs.Names.{name_labels};
 ghost use Rattle.domain_zone.specs.Records.{records_view, set_view};
 ghost use Rattle.domain_zone_answer.specs.Sections.{IsChosen};
-ghost use Rattle.domain_zone_laws.specs.Sorted.{IsSorted};
-ghost use Rattle.domain_zone_laws.specs.Zone.{IsZone, Exists, IsClosestEncloser, OwnsRecords};
-ghost use Rattle.domain_zone_laws.specs.Zone.{source_of_synthesis};
+ghost use Rattle.domain_zone.specs.Sorted.{IsSorted};
+ghost use Rattle.domain_zone.specs.Zone.{IsZone, Exists, IsClosestEncloser, OwnsRecords};
+ghost use Rattle.domain_zone.specs.Zone.{source_of_synthesis};
 
 use domain_list::ToLabelIter;
 use domain_list::laws::order_laws;
 use domain_name::Name;
 use domain_zone::{Owner, source_of_synthesis};
-use domain_zone_laws::find::place_of;
-use domain_zone_laws::zone::{Rrset, ZoneRecords};
+use domain_zone::find::place_of;
+use domain_zone::zone::{Rrset, ZoneRecords};
 
 /// The RRset of the lowest type that a name owns.
 pub(crate) fn first_rrset<'z: 'a, 'a, M: ToLabelIter<'a>>(

@@ -5,7 +5,7 @@ ghost use Rattle.domain_zone.specs.Kept.{zone_view};
 ghost use Rattle.domain_zone_answer.specs.Sections.{AreSections};
 ghost use Rattle.domain_zone_answer.specs.Views.{response_name, response_outcome};
 ghost use Rattle.domain_zone_answer.specs.Views.{response_sections};
-ghost use Rattle.domain_zone_laws.specs.Answers.{Answers};
+ghost use Rattle.domain_zone.specs.Answers.{Answers};
 
 use crate::addresses::AddressIter;
 use crate::answer::answer_section;

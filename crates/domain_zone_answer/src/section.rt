@@ -2,8 +2,8 @@
 
 use domain_name::Name;
 use domain_zone::Owner;
-use domain_zone_laws::ttl::{covered_type, lowest_covered};
-use domain_zone_laws::zone::Rrset;
+use domain_zone::ttl::{covered_type, lowest_covered};
+use domain_zone::zone::Rrset;
 
 /// An RRset in a section of a response, with the owner and the TTL that it has there.
 ///
@@ -21,7 +21,7 @@ impl<'a> SectionRrset<'a> {
     ghost use Rattle.domain_zone.specs.Records.{set_view};
     ghost use Rattle.domain_zone_answer.specs.Sections.{owned_by};
     ghost use Rattle.domain_zone_answer.specs.Views.{section_view};
-    ghost use Rattle.domain_zone_laws.specs.Zone.{record_ttl};
+    ghost use Rattle.domain_zone.specs.Zone.{record_ttl};
 
     /// The RRset unchanged.
     pub fn new(set: &'a Rrset<Owner>) -> SectionRrset<'a>

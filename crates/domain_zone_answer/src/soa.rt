@@ -4,14 +4,14 @@ ghost use Rattle.domain_label.specs.Wire.{wire, IsAbsoluteName};
 ghost use Rattle.domain_zone.specs.Records.{records_view, set_view};
 ghost use Rattle.domain_zone_answer.specs.Sections.{IsSoaData, IsNegativeTtl, IsNegativeSoa};
 ghost use Rattle.domain_zone_answer.specs.Views.{section_view};
-ghost use Rattle.domain_zone_laws.specs.Sorted.{IsSorted};
-ghost use Rattle.domain_zone_laws.specs.Zone.{IsZone};
+ghost use Rattle.domain_zone.specs.Sorted.{IsSorted};
+ghost use Rattle.domain_zone.specs.Zone.{IsZone};
 
 use crate::section::SectionRrset;
 use domain_flat::name_len;
 use domain_zone::Owner;
-use domain_zone_laws::find::find_at;
-use domain_zone_laws::zone::{Rrset, ZoneRecords};
+use domain_zone::find::find_at;
+use domain_zone::zone::{Rrset, ZoneRecords};
 
 /// How many octets the five numbers of SOA data have.
 const NUMBERS_LEN: usize = 20;

@@ -7,7 +7,7 @@ use Rattle.std.specs.List.{filter}
 use Rattle.domain_message.specs.declared.section.Section.{Section}
 use Rattle.domain_message_builder.specs.Contents.{PushedRecord}
 use Rattle.domain_message_builder.specs.State.{State}
-use Rattle.domain_zone_laws.specs.Zone.{RRset, covered_type}
+use Rattle.domain_zone.specs.Zone.{RRset, covered_type}
 use Rattle.domain_zone_response.specs.Pushing.{record_of, records_of, Gains, CannotAdd, DoesNotFit}
 use Rattle.domain_zone_response.proofs.Growing.{gains_both, parted_at}
 use Rattle.domain_zone_signed.specs.Signing.{covers}

@@ -7,7 +7,7 @@ use Rattle.domain_message_builder.specs.Contents.{Content, Holds}
 use Rattle.domain_message_builder.specs.Pushes.{emptied}
 use Rattle.domain_message_builder.specs.State.{State}
 use Rattle.domain_zone_answer.specs.Sections.{Sections}
-use Rattle.domain_zone_laws.specs.Zone.{RRset}
+use Rattle.domain_zone.specs.Zone.{RRset}
 use Rattle.domain_zone_response.specs.Included.{Parts, FillsAll, Puts, holding}
 use Rattle.domain_zone_response.specs.Included.Kept.{whole, no_answer, no_authority, no_glue}
 use Rattle.domain_zone_response.specs.Pushing.{all_records, Fills, StopsAt}

@@ -12,7 +12,7 @@ use Rattle.domain_message_builder.specs.Rrsets.{records_added}
 use Rattle.domain_message_builder.specs.State.{State}
 use Rattle.domain_message_builder.specs.declared.error.PushError.{PushError}
 use Rattle.domain_message_builder.specs.declared.error.PushError.TheVariants.{Append, Long, Count, Limit, Order}
-use Rattle.domain_zone_laws.specs.Zone.{RRset}
+use Rattle.domain_zone.specs.Zone.{RRset}
 use Rattle.domain_zone_response.specs.Pushing.{record_of, records_of, all_records, Gains, Fills, CannotAdd, DoesNotFit, StopsAt, Stops}
 use Rattle.domain_zone_response.specs.Pushing.CannotAdd.{no_room, over_limit, too_long, too_many, begun}
 

@@ -21,7 +21,7 @@ use Rattle.domain_message_builder.specs.declared.error.PushError.TheVariants.{Ap
 use Rattle.domain_message_builder.specs.declared.error.StartError.{StartError}
 use Rattle.domain_message_builder.specs.declared.error.StartError.TheVariants as start
 use Rattle.domain_rdata.specs.ReadBack.{Exceeds}
-use Rattle.domain_zone_laws.specs.Zone.{Zone}
+use Rattle.domain_zone.specs.Zone.{Zone}
 use Rattle.domain_zone_response.specs.Edns.{response_limit, limit_over, response_opt, opt_len}
 use Rattle.domain_zone_response.specs.Finishing.{BeginsWith, Answered}
 use Rattle.domain_zone_response.specs.Included.{holding}

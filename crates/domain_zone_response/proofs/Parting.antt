@@ -1,6 +1,6 @@
 -- Addresses that are required, and others.
 use Rattle.std.proofs.Common.{◌≡◌, ℕ, List, [], ◌∷◌, ◌++◌, sym, subst, append_assoc, append-nil, inl, inr}
-use Rattle.domain_zone_laws.specs.Zone.{RRset}
+use Rattle.domain_zone.specs.Zone.{RRset}
 use Rattle.domain_zone_response.specs.Included.{Parts, IsRequired}
 use Rattle.domain_zone_response.specs.Views.{TakesPart}
 use Rattle.domain_zone_response.specs.Included.Parts.{none, required, other}

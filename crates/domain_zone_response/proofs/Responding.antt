@@ -27,8 +27,8 @@ use Rattle.domain_zone.specs.Headers.{HasAuthority, response_code}
 use Rattle.domain_zone_answer.specs.Sections.{Sections}
 use Rattle.domain_zone_signed.specs.Signing.{AddsDnssecIf, FollowsWith}
 use Rattle.domain_zone_signed.specs.ChainSections.{IsFollowedBy, Follows}
-use Rattle.domain_zone_laws.specs.Answers.{Outcome}
-use Rattle.domain_zone_laws.specs.Zone.{Zone, RRset}
+use Rattle.domain_zone.specs.Answers.{Outcome}
+use Rattle.domain_zone.specs.Zone.{Zone, RRset}
 use Rattle.domain_message_builder.proofs.Composing.{composed_after}
 use Rattle.domain_zone_response.specs.Finishing.{StartsWith, FinishesWith, EndsWith, BeginsWith, RefusesBy, Answered}
 use Rattle.domain_zone_response.specs.Headers.{IsResponseHeader, RespondsTo}

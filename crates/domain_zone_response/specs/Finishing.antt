@@ -11,8 +11,8 @@ use Rattle.domain_message_builder.specs.State.{State}
 use Rattle.domain_message_builder.specs.declared.builder.MessageBuilder.{MessageBuilder}
 use Rattle.domain_zone.specs.Headers.{HasAuthority, response_code}
 use Rattle.domain_zone_answer.specs.Sections.{Sections}
-use Rattle.domain_zone_laws.specs.Answers.{Outcome}
-use Rattle.domain_zone_laws.specs.Zone.{Zone}
+use Rattle.domain_zone.specs.Answers.{Outcome}
+use Rattle.domain_zone.specs.Zone.{Zone}
 use Rattle.domain_zone_response.specs.Headers.{RespondsTo}
 use Rattle.domain_zone_response.specs.Included.{cut_of, Puts}
 use Rattle.domain_zone_response.specs.Responses.{IsRefused, StartsAsked, only_question}

@@ -10,8 +10,8 @@ use Rattle.domain_message_builder.specs.Opt.{Opt}
 use Rattle.domain_message_builder.specs.Pushes.{SameSettings, emptied}
 use Rattle.domain_message_builder.specs.State.{State}
 use Rattle.domain_zone_answer.specs.Sections.{Sections}
-use Rattle.domain_zone_laws.specs.Answers.{Outcome, out_of_zone, referral, found, redirect, too_long, synthesized, name_error}
-use Rattle.domain_zone_laws.specs.Zone.{RRset, RRSIG}
+use Rattle.domain_zone.specs.Answers.{Outcome, out_of_zone, referral, found, redirect, too_long, synthesized, name_error}
+use Rattle.domain_zone.specs.Zone.{RRset, RRSIG}
 use Rattle.domain_zone_response.specs.Pushing.{all_records, DoesNotFit}
 
 -- The name of the cut of a referral. In another response, where there are no addresses, the root.

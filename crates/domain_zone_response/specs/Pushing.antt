@@ -8,7 +8,7 @@ use Rattle.domain_message_builder.specs.Refusals.{RecordTooBig, DataTooLong}
 use Rattle.domain_message_builder.specs.Rrsets.{records_added}
 use Rattle.domain_message_builder.specs.State.{State}
 use Rattle.domain_rdata.specs.ReadBack.{Exceeds}
-use Rattle.domain_zone_laws.specs.Zone.{RRset, record_ttl}
+use Rattle.domain_zone.specs.Zone.{RRset, record_ttl}
 
 -- a record of the RRset s, with these data, as a message has it
 abbrev pub record_of : ℕ → RRset → List ℕ → PushedRecord

@@ -11,8 +11,8 @@ use Rattle.domain_message_builder.specs.Reading.{IsMessageOf}
 use Rattle.domain_message_builder.specs.State.{State}
 use Rattle.domain_zone.specs.Headers.{HasAuthority, response_code}
 use Rattle.domain_zone_answer.specs.Sections.{Sections}
-use Rattle.domain_zone_laws.specs.Answers.{Outcome}
-use Rattle.domain_zone_laws.specs.Zone.{Zone, RRset}
+use Rattle.domain_zone.specs.Answers.{Outcome}
+use Rattle.domain_zone.specs.Zone.{Zone, RRset}
 use Rattle.domain_zone_response.specs.Edns.{asks_dnssec, response_limit, response_opt, opt_len}
 use Rattle.domain_zone_response.specs.Headers.{IsResponseHeader}
 use Rattle.domain_zone_response.specs.Included.{cut_of, Keeps, holding}

@@ -8,7 +8,7 @@ use Rattle.domain_message_builder.specs.Contents.{PushedRecord}
 use Rattle.domain_message_builder.specs.declared.builder.MessageBuilder.{MessageBuilder}
 use Rattle.domain_name.specs.Names.{name_labels}
 use Rattle.domain_zone_answer.specs.Sections.{Sections}
-use Rattle.domain_zone_laws.specs.Zone.{RRset}
+use Rattle.domain_zone.specs.Zone.{RRset}
 use Rattle.domain_zone_response.specs.Included.{IsRequired, Parts, Puts}
 use Rattle.domain_zone_response.specs.Pushing.{Gains, Fills, CannotAdd, DoesNotFit, StopsAt, Stops}
 use Rattle.domain_zone_response.specs.declared.glue.Glue.{Glue}

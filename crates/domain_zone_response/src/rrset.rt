@@ -17,7 +17,7 @@ use domain_message_builder::MessageBuilder;
 use domain_name::Name;
 use domain_rdata::{Composer, Rtype, UnknownRecordData};
 use domain_zone_answer::{SectionRrset, SynthesizedCname};
-use domain_zone_laws::ttl::covered_type;
+use domain_zone::ttl::covered_type;
 use domain_zone_signed::Signatures;
 
 /// What a record has before its data.

@@ -2,8 +2,8 @@
 use Rattle.std.proofs.Common.{◌≡◌, ℕ, List, sym, subst}
 use Rattle.domain_zone_answer.specs.Sections.{Sections, AreSections}
 use Rattle.domain_zone_signed.specs.ChainSections.{IsFollowedBy}
-use Rattle.domain_zone_laws.specs.Answers.{Outcome, Answers}
-use Rattle.domain_zone_laws.specs.Zone.{Zone}
+use Rattle.domain_zone.specs.Answers.{Outcome, Answers}
+use Rattle.domain_zone.specs.Zone.{Zone}
 
 pub may_follow : (z : Zone) (n : List (List ℕ)) (t : ℕ) (o p : Outcome) → p ≡ o → Answers z n t o → Answers z n t p
 may_follow z n t o p e a = subst (λ x. Answers z n t x) (sym e) a

@@ -5,9 +5,9 @@ use Rattle.std.proofs.lemmas.List.Elements.{All-contains}
 use Rattle.domain_label.specs.Wire.{IsAbsoluteName}
 use Rattle.domain_list.specs.Ends.{EndsWith}
 use Rattle.domain_list.specs.Order.{SameLabels}
-use Rattle.domain_zone_laws.specs.Zone.{Zone, RRset, IsZone, NS, NSEC, IsAt, OwnsRecords, Exists, IsCut, IsFirstCut, HasNoCut}
-use Rattle.domain_zone_laws.proofs.Ending.{same_ends, ends_after, same_then, both_ends, ends_linear}
-use Rattle.domain_zone_laws.proofs.Nodes.{at_same, owns_same, owns_of, first_cut}
+use Rattle.domain_zone.specs.Zone.{Zone, RRset, IsZone, NS, NSEC, IsAt, OwnsRecords, Exists, IsCut, IsFirstCut, HasNoCut}
+use Rattle.domain_zone.proofs.Ending.{same_ends, ends_after, same_then, both_ends, ends_linear}
+use Rattle.domain_zone.proofs.Nodes.{at_same, owns_same, owns_of, first_cut}
 use Rattle.domain_zone_signed.proofs.Ordering.{Names, UpTo, IsBefore, before_up_to, same_up_to, itself_up_to, same_right, up_to_after, both_up_to, above_up_to, between_below, before_or_not}
 use Rattle.domain_zone_signed.specs.Denial.{IsInChain, IsLastUpTo, IsNsecFor}
 use Rattle.domain_zone_signed.specs.Cuts.{IsCutOrSelf}

@@ -4,11 +4,11 @@ use Rattle.std.specs.List.{Contains}
 use Rattle.std.proofs.lemmas.List.Elements.{Contains-append_left, Contains-append_right}
 use Rattle.domain_list.specs.Ends.{EndsWith}
 use Rattle.domain_list.specs.Order.{SameLabels}
-use Rattle.domain_zone_laws.specs.Answers.{Reply, records, any_types, alias, no_data, out_of_zone, referral, found, redirect, too_long, synthesized, name_error, IsReferred, IsAuthoritative, IsNonexistent}
-use Rattle.domain_zone_laws.specs.Zone.{Zone, RRset, IsZone, DNAME, NSEC, IsAt, HasType, OwnsRecords, Exists, IsClosestEncloser, source_of_synthesis}
-use Rattle.domain_zone_laws.proofs.Ending.{ends_after, ends_below}
-use Rattle.domain_zone_laws.proofs.Nodes.{has_same, owns_same, exists_same, dec_owns, one_encloser}
-use Rattle.domain_zone_laws.proofs.Total.{source_same}
+use Rattle.domain_zone.specs.Answers.{Reply, records, any_types, alias, no_data, out_of_zone, referral, found, redirect, too_long, synthesized, name_error, IsReferred, IsAuthoritative, IsNonexistent}
+use Rattle.domain_zone.specs.Zone.{Zone, RRset, IsZone, DNAME, NSEC, IsAt, HasType, OwnsRecords, Exists, IsClosestEncloser, source_of_synthesis}
+use Rattle.domain_zone.proofs.Ending.{ends_after, ends_below}
+use Rattle.domain_zone.proofs.Nodes.{has_same, owns_same, exists_same, dec_owns, one_encloser}
+use Rattle.domain_zone.proofs.Total.{source_same}
 use Rattle.domain_zone_signed.proofs.Chaining.{owner_inside, owner_exists, above_exists, first_in_chain, chain_below, nsec_at}
 use Rattle.domain_zone_signed.proofs.Covering.{closes, covers_of, next_below}
 use Rattle.domain_zone_signed.proofs.Lasting.{some_nsec}

@@ -2,9 +2,9 @@
 use Rattle.std.proofs.Common.{◌⊎◌, ◌↔◌, sym, inl, inr, ⊎_elim}
 use Rattle.domain_list.specs.Ends.{EndsWith}
 use Rattle.domain_list.specs.Order.{SameLabels}
-use Rattle.domain_zone_laws.specs.Zone.{Zone, RRset, IsZone, NSEC, IsAt, Exists, OwnsRecords, IsCut, IsFirstCut}
-use Rattle.domain_zone_laws.proofs.Ending.{ends_same}
-use Rattle.domain_zone_laws.proofs.Nodes.{cut_same, first_cut}
+use Rattle.domain_zone.specs.Zone.{Zone, RRset, IsZone, NSEC, IsAt, Exists, OwnsRecords, IsCut, IsFirstCut}
+use Rattle.domain_zone.proofs.Ending.{ends_same}
+use Rattle.domain_zone.proofs.Nodes.{cut_same, first_cut}
 use Rattle.domain_zone_signed.proofs.Chaining.{owner_inside, in_chain_same, first_in_chain, chain_below}
 use Rattle.domain_zone_signed.proofs.Ordering.{Names, UpTo, IsBefore, before_or_not, before_up_to, not_both, not_less, same_up_to, itself_up_to, up_to_after, before_then_up_to, before_if_not_same, above_up_to, between_below}
 use Rattle.domain_zone_signed.specs.NsecChain.{HasNsecChain, Covers, ShowsNoRecords, ShowsNoName}

@@ -1,7 +1,7 @@
 -- RRSIG data, one after the other.
 use Rattle.std.proofs.Common.{◌≡◌, ◌≢◌, ℕ, ◌+◌, ◌<◌, ◌≤◌, List, map, drop, length, get_or, sym, ap, subst, ◌∙◌, inl, inr, ⊎_elim}
 use Rattle.std.proofs.lemmas.List.{drop_more, drop_all}
-use Rattle.domain_zone_laws.specs.Zone.{covered_type}
+use Rattle.domain_zone.specs.Zone.{covered_type}
 use Rattle.domain_zone_signed.specs.Signing.{IsCovered}
 
 module _ {X : Type 0} (f : X → List ℕ) (t : ℕ) where

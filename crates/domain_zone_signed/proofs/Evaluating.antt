@@ -5,12 +5,12 @@ use Rattle.std.proofs.lemmas.Bool.{cases_lt}
 use Rattle.domain_label.specs.Wire.{wire}
 use Rattle.domain_zone_signed.proofs.OneChain.{dec_among, dec_option, dec_at_most, dec_followed, dec_leads, some_chain}
 use Rattle.domain_zone_signed.specs.AliasRows.{AliasRows, example, at, hourly, alias_zone}
-use Rattle.domain_zone_laws.specs.Zone.{Zone, RRset, SOA, DNAME, IsAt, Exists, source_of_synthesis}
-use Rattle.domain_zone_laws.specs.Answers.{Outcome, out_of_zone, referral, found, redirect, too_long, synthesized, name_error, IsNonexistent, substitution, Answers}
-use Rattle.domain_zone_laws.proofs.Deciding.{from_test, dec_number, dec_octets, dec_labels, dec_same, dec_ends, dec_and, dec_some}
-use Rattle.domain_zone_laws.proofs.Ending.{ends_itself}
-use Rattle.domain_zone_laws.proofs.Nodes.{longest, shortest, shortest_root, shortest_step, shortest_first, dec_has, dec_owns, dec_exists, dec_not, dec_cut, first_cut, encloser}
-use Rattle.domain_zone_laws.proofs.Total.{some_reply, dec_referred}
+use Rattle.domain_zone.specs.Zone.{Zone, RRset, SOA, DNAME, IsAt, Exists, source_of_synthesis}
+use Rattle.domain_zone.specs.Answers.{Outcome, out_of_zone, referral, found, redirect, too_long, synthesized, name_error, IsNonexistent, substitution, Answers}
+use Rattle.domain_zone.proofs.Deciding.{from_test, dec_number, dec_octets, dec_labels, dec_same, dec_ends, dec_and, dec_some}
+use Rattle.domain_zone.proofs.Ending.{ends_itself}
+use Rattle.domain_zone.proofs.Nodes.{longest, shortest, shortest_root, shortest_step, shortest_first, dec_has, dec_owns, dec_exists, dec_not, dec_cut, first_cut, encloser}
+use Rattle.domain_zone.proofs.Total.{some_reply, dec_referred}
 
 longer_than : (m n : ℕ) → (m ≤ n → ⊥) → n < m
 longer_than m n f = elim (cases_lt n m) [

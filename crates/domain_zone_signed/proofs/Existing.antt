@@ -1,11 +1,11 @@
 -- There are RRsets for each outcome.
 use Rattle.std.proofs.Common.{ℕ, List, [], ◌∷◌, ◌++◌, refl, inl, inr}
 use Rattle.domain_list.specs.Ends.{EndsWith}
-use Rattle.domain_zone_laws.specs.Answers.{Reply, records, any_types, alias, no_data, Outcome, out_of_zone, referral, found, redirect, too_long, synthesized, name_error, Answers}
-use Rattle.domain_zone_laws.specs.Zone.{Zone, RRset, IsZone, DS, NSEC, IsClosestEncloser, source_of_synthesis}
-use Rattle.domain_zone_laws.proofs.Deciding.{dec_same}
-use Rattle.domain_zone_laws.proofs.Ending.{ends_after, ends_below}
-use Rattle.domain_zone_laws.proofs.Nodes.{at_same, dec_has}
+use Rattle.domain_zone.specs.Answers.{Reply, records, any_types, alias, no_data, Outcome, out_of_zone, referral, found, redirect, too_long, synthesized, name_error, Answers}
+use Rattle.domain_zone.specs.Zone.{Zone, RRset, IsZone, DS, NSEC, IsClosestEncloser, source_of_synthesis}
+use Rattle.domain_zone.proofs.Deciding.{dec_same}
+use Rattle.domain_zone.proofs.Ending.{ends_after, ends_below}
+use Rattle.domain_zone.proofs.Nodes.{at_same, dec_has}
 use Rattle.domain_zone_signed.proofs.Chaining.{last_one, nsec_of_last}
 use Rattle.domain_zone_signed.proofs.Lasting.{some_last}
 use Rattle.domain_zone_signed.proofs.Ordering.{Names}

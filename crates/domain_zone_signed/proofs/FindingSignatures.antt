@@ -9,9 +9,9 @@ use Rattle.domain_list.specs.Order.{SameLabels}
 use Rattle.domain_name.specs.declared.absolute.Name.{Name}
 use Rattle.domain_zone.specs.Records.{set_view}
 use Rattle.domain_zone_answer.proofs.Wildcards.{inside}
-use Rattle.domain_zone_laws.proofs.Nodes.{at_same, one_encloser}
-use Rattle.domain_zone_laws.specs.Zone.{Zone, RRset, RRSIG, IsAt, HasType, Exists, IsClosestEncloser, source_of_synthesis}
-use Rattle.domain_zone_laws.specs.declared.zone.Rrset.{Rrset}
+use Rattle.domain_zone.proofs.Nodes.{at_same, one_encloser}
+use Rattle.domain_zone.specs.Zone.{Zone, RRset, RRSIG, IsAt, HasType, Exists, IsClosestEncloser, source_of_synthesis}
+use Rattle.domain_zone.specs.declared.zone.Rrset.{Rrset}
 use Rattle.domain_zone_signed.specs.Signing.{covers, IsCovered, IsSignatureSet, AreSignaturesOf, signatures}
 
 -- a name has one source of synthesis

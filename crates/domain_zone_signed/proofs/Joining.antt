@@ -9,9 +9,9 @@ use Rattle.domain_zone_signed.specs.AliasChains.{Step, step, step_name, Chain, a
 use Rattle.domain_zone_signed.specs.AliasChains.Chain.{ends, goes_on}
 use Rattle.domain_zone_signed.specs.ChainSections.{last_outcome, with_rrset, followed_by, no_sections, AreChainSections, IsFollowedBy, Follows}
 use Rattle.domain_zone_signed.specs.ChainLaws.{HasOneChainResponse}
-use Rattle.domain_zone_laws.specs.Answers.{Outcome, Answers}
-use Rattle.domain_zone_laws.specs.Laws.{HasOneOutcome}
-use Rattle.domain_zone_laws.specs.Zone.{Zone, RRset, IsZone}
+use Rattle.domain_zone.specs.Answers.{Outcome, Answers}
+use Rattle.domain_zone.specs.Laws.{HasOneOutcome}
+use Rattle.domain_zone.specs.Zone.{Zone, RRset, IsZone}
 
 -- Each of these questions has its outcome.
 abbrev pub AllAnswer : Zone → ℕ → List Step → Type 0

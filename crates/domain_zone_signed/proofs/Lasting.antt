@@ -3,10 +3,10 @@ use Rattle.std.proofs.Common.{◌≡◌, ◌⊎◌, List, [], ◌∷◌, sym, �
 use Rattle.std.specs.List.{Contains}
 use Rattle.std.proofs.lemmas.List.Elements.{Contains-append_left, Contains-append_right, Contains-append_cases}
 use Rattle.domain_list.specs.Ends.{EndsWith}
-use Rattle.domain_zone_laws.specs.Zone.{Zone, RRset, IsZone, OwnsRecords}
-use Rattle.domain_zone_laws.proofs.Deciding.{Decided, dec_same, dec_and, only_one}
-use Rattle.domain_zone_laws.proofs.Ending.{ends_same, both_ends}
-use Rattle.domain_zone_laws.proofs.Nodes.{first_cut}
+use Rattle.domain_zone.specs.Zone.{Zone, RRset, IsZone, OwnsRecords}
+use Rattle.domain_zone.proofs.Deciding.{Decided, dec_same, dec_and, only_one}
+use Rattle.domain_zone.proofs.Ending.{ends_same, both_ends}
+use Rattle.domain_zone.proofs.Nodes.{first_cut}
 use Rattle.domain_zone_signed.proofs.Chaining.{in_chain_same, apex_in_chain, no_cut_in_chain, nsec_of_last}
 use Rattle.domain_zone_signed.proofs.Ordering.{Names, UpTo, IsBefore, same_left, up_to_after, before_up_to, itself_up_to, above_up_to, before_or_not, not_both}
 use Rattle.domain_zone_signed.specs.NsecChain.{HasNsecChain}

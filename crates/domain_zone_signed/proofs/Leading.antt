@@ -8,9 +8,9 @@ use Rattle.domain_zone_signed.specs.AliasChains.{Step, step, step_name, alias_ta
 use Rattle.domain_zone_signed.specs.AliasChains.Chain.{ends, goes_on}
 use Rattle.domain_zone_signed.specs.ChainSections.{IsFollowedBy}
 use Rattle.domain_zone_signed.specs.Targets.{IsReplyOfName, IsOfName, HasTarget}
-use Rattle.domain_zone_laws.specs.Answers.{Answers, Replies, Reply, records, any_types, alias, no_data}
-use Rattle.domain_zone_laws.specs.Answers.{Outcome, out_of_zone, referral, found, redirect, too_long, synthesized, name_error}
-use Rattle.domain_zone_laws.specs.Zone.{Zone, IsZone, source_of_synthesis}
+use Rattle.domain_zone.specs.Answers.{Answers, Replies, Reply, records, any_types, alias, no_data}
+use Rattle.domain_zone.specs.Answers.{Outcome, out_of_zone, referral, found, redirect, too_long, synthesized, name_error}
+use Rattle.domain_zone.specs.Zone.{Zone, IsZone, source_of_synthesis}
 
 -- ---- a CNAME of a zone has a name as its data
 

@@ -6,11 +6,11 @@ use Rattle.domain_list.specs.Ends.{EndsWith}
 use Rattle.domain_zone_signed.specs.AliasChains.{Step, step, alias_target, IsAmong, IsFollowed, LeadsTo, Chain, alias_limit}
 use Rattle.domain_zone_signed.specs.AliasChains.Chain.{ends, goes_on}
 use Rattle.domain_zone_signed.specs.ChainLaws.{HasOneChain}
-use Rattle.domain_zone_laws.proofs.Deciding.{Decided, from_test, dec_number, dec_same, dec_ends, dec_and}
-use Rattle.domain_zone_laws.proofs.Nodes.{dec_not}
-use Rattle.domain_zone_laws.specs.Answers.{Outcome, Answers}
-use Rattle.domain_zone_laws.specs.Laws.{HasOneOutcome}
-use Rattle.domain_zone_laws.specs.Zone.{Zone, CNAME, ANY, IsZone}
+use Rattle.domain_zone.proofs.Deciding.{Decided, from_test, dec_number, dec_same, dec_ends, dec_and}
+use Rattle.domain_zone.proofs.Nodes.{dec_not}
+use Rattle.domain_zone.specs.Answers.{Outcome, Answers}
+use Rattle.domain_zone.specs.Laws.{HasOneOutcome}
+use Rattle.domain_zone.specs.Zone.{Zone, CNAME, ANY, IsZone}
 
 -- A question for the type has no two outcomes.
 abbrev pub HasNoTwo : Zone → ℕ → Type 0

@@ -7,10 +7,10 @@ use Rattle.domain_zone_signed.specs.ChainSections.{IsFollowedBy, Follows, with_r
 use Rattle.domain_zone_signed.specs.ChainLaws.{HasOneChain, HasOneChainResponse}
 use Rattle.domain_zone_signed.specs.Denial.{DeniesFor}
 use Rattle.domain_zone_signed.specs.DenialLaws.{HasOneDenial}
-use Rattle.domain_zone_laws.proofs.Nodes.{at_same}
-use Rattle.domain_zone_laws.specs.Answers.{Outcome}
-use Rattle.domain_zone_laws.specs.Laws.{HasOneOutcome}
-use Rattle.domain_zone_laws.specs.Zone.{Zone, RRset, RRSIG, IsZone, source_of_synthesis}
+use Rattle.domain_zone.proofs.Nodes.{at_same}
+use Rattle.domain_zone.specs.Answers.{Outcome}
+use Rattle.domain_zone.specs.Laws.{HasOneOutcome}
+use Rattle.domain_zone.specs.Zone.{Zone, RRset, RRSIG, IsZone, source_of_synthesis}
 use Rattle.domain_zone_signed.specs.SignedLaws.{HasOneSignedResponse, IsPlainWithout}
 use Rattle.domain_zone_signed.specs.Signing.{signatures, AreSignaturesOf, AreSigned, AddsDenial, AddDenials, AddsDnssecIf}
 use Rattle.domain_zone_signed.proofs.FindingSignatures.{HasOneSet, one_source}

@@ -7,7 +7,7 @@ use Rattle.domain_list.proofs.AncestorLaws.{tells_apart, keeps_together, comes_f
 use Rattle.domain_list.specs.Ends.{EndsWith}
 use Rattle.domain_list.specs.NameLaws.{order_is_total}
 use Rattle.domain_list.specs.Order.{canonical_order, SameLabels}
-use Rattle.domain_zone_laws.proofs.Ending.{ends_itself}
+use Rattle.domain_zone.proofs.Ending.{ends_itself}
 
 abbrev pub Names : Type 0
 Names = List (List ℕ)

@@ -2,12 +2,12 @@
 use Rattle.std.proofs.Common.{◌≡◌, ℕ, ◌⊎◌, [], ◌∷◌, sym, ◌∙◌, inl, inr, ⊎_elim}
 use Rattle.domain_list.specs.Ends.{EndsWith}
 use Rattle.domain_list.specs.Order.{SameLabels}
-use Rattle.domain_zone_laws.specs.Answers.{IsReferred, IsAuthoritative, IsNonexistent}
-use Rattle.domain_zone_laws.specs.Zone.{Zone, RRset, IsZone, NS, DNAME, DS, HasType, OwnsRecords, Exists, IsCut, IsFirstCut, source_of_synthesis}
-use Rattle.domain_zone_laws.proofs.Deciding.{dec_same}
-use Rattle.domain_zone_laws.proofs.Ending.{ends_after, ends_same, both_ends, ends_step}
-use Rattle.domain_zone_laws.proofs.Nodes.{at_same, has_same, owns_same, owns_of, first_cut}
-use Rattle.domain_zone_laws.proofs.Total.{first_cut_same}
+use Rattle.domain_zone.specs.Answers.{IsReferred, IsAuthoritative, IsNonexistent}
+use Rattle.domain_zone.specs.Zone.{Zone, RRset, IsZone, NS, DNAME, DS, HasType, OwnsRecords, Exists, IsCut, IsFirstCut, source_of_synthesis}
+use Rattle.domain_zone.proofs.Deciding.{dec_same}
+use Rattle.domain_zone.proofs.Ending.{ends_after, ends_same, both_ends, ends_step}
+use Rattle.domain_zone.proofs.Nodes.{at_same, has_same, owns_same, owns_of, first_cut}
+use Rattle.domain_zone.proofs.Total.{first_cut_same}
 use Rattle.domain_zone_signed.proofs.Chaining.{owner_exists}
 use Rattle.domain_zone_signed.proofs.Ordering.{Names}
 use Rattle.domain_zone_signed.specs.Denial.{IsInChain}

@@ -5,7 +5,7 @@ use Rattle.std.specs.Prelude.{Bool, true, false, not, ◌&&◌, if◌then◌else
 use Rattle.domain_zone_signed.specs.ChainSections.{same_set, is_new_to, with_rrset}
 use Rattle.domain_zone_signed.specs.ChainViews.{answer_view, answer_views}
 use Rattle.domain_zone_signed.specs.declared.answer.AnswerRrset.{AnswerRrset}
-use Rattle.domain_zone_laws.specs.Zone.{RRset}
+use Rattle.domain_zone.specs.Zone.{RRset}
 
 abbrev new_to : RRset → List AnswerRrset → Bool
 new_to s xs = is_new_to (answer_views xs) s

@@ -12,12 +12,12 @@ use Rattle.domain_zone.specs.declared.lookup.outcome.Answer.TheVariants as varia
 use Rattle.domain_zone.specs.Outcomes.{outcome_of}
 use Rattle.domain_zone.specs.Records.{set_view}
 use Rattle.domain_zone.proofs.Owned.{small_types}
-use Rattle.domain_zone_laws.proofs.Nodes.{at_same, first_cut, one_cut}
-use Rattle.domain_zone_laws.proofs.Total.{first_cut_same}
-use Rattle.domain_zone_laws.specs.Answers.{Answers, IsReferred}
-use Rattle.domain_zone_laws.specs.Sorted.{ComesBefore, IsSorted, IsPlace}
-use Rattle.domain_zone_laws.specs.Zone.{Zone, RRset, IsZone, NS, DS, NSEC, IsAt, HasType, OwnsRecords, IsFirstCut, HasNoCut}
-use Rattle.domain_zone_laws.specs.declared.zone.Rrset.{Rrset}
+use Rattle.domain_zone.proofs.Nodes.{at_same, first_cut, one_cut}
+use Rattle.domain_zone.proofs.Total.{first_cut_same}
+use Rattle.domain_zone.specs.Answers.{Answers, IsReferred}
+use Rattle.domain_zone.specs.Sorted.{ComesBefore, IsSorted, IsPlace}
+use Rattle.domain_zone.specs.Zone.{Zone, RRset, IsZone, NS, DS, NSEC, IsAt, HasType, OwnsRecords, IsFirstCut, HasNoCut}
+use Rattle.domain_zone.specs.declared.zone.Rrset.{Rrset}
 use Rattle.domain_zone_signed.proofs.Chaining.{cut_or_self_in_chain, cut_or_self_above, some_cut_or_self, nsec_of_last, last_one}
 use Rattle.domain_zone_signed.proofs.Ordering.{Names, UpTo, IsBefore, before_or_not, before_up_to, not_both, same_up_to, same_left, up_to_cases, up_to_after, above_up_to, between_below}
 use Rattle.domain_zone_signed.specs.Denial.{IsInChain, IsLastUpTo, IsNsecFor}

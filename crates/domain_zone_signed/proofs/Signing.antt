@@ -2,7 +2,7 @@
 use Rattle.std.proofs.Common.{◌≡◌, ℕ, List, [], ◌∷◌, ◌++◌, refl, sym, ap, subst, ◌∙◌, append_assoc, append-nil}
 use Rattle.std.specs.Prelude.{Bool, true, false, fold}
 use Rattle.domain_zone_answer.specs.Sections.{Sections}
-use Rattle.domain_zone_laws.specs.Zone.{Zone, RRset}
+use Rattle.domain_zone.specs.Zone.{Zone, RRset}
 use Rattle.domain_zone_signed.specs.Signing.{AreSignaturesOf, AreSigned, AddsDenial, AddDenials, AddsDnssecIf}
 use Rattle.domain_zone_signed.specs.SignedViews.{AddsAllSigned, AreDenialsIf}
 

@@ -5,11 +5,11 @@ use Rattle.octseq.specs.declared.octets.Octets.{Ghosts}
 use Rattle.domain_name.specs.declared.absolute.Name.{Name}
 use Rattle.domain_zone.specs.Records.{set_view}
 use Rattle.domain_zone_answer.specs.Sets.{set_list}
-use Rattle.domain_zone_laws.specs.Views.{reply_of}
-use Rattle.domain_zone_laws.specs.declared.reply.Reply as code
-use Rattle.domain_zone_laws.specs.declared.reply.Reply.TheVariants as variants
-use Rattle.domain_zone_laws.specs.Zone.{Zone, RRset, IsAt, HasType}
-use Rattle.domain_zone_laws.specs.declared.zone.Rrset.{Rrset}
+use Rattle.domain_zone.specs.Views.{reply_of}
+use Rattle.domain_zone.specs.declared.reply.Reply as code
+use Rattle.domain_zone.specs.declared.reply.Reply.TheVariants as variants
+use Rattle.domain_zone.specs.Zone.{Zone, RRset, IsAt, HasType}
+use Rattle.domain_zone.specs.declared.zone.Rrset.{Rrset}
 use Rattle.domain_zone_signed.proofs.Ordering.{Names}
 use Rattle.domain_zone_signed.specs.Denial.{IsNsecFor, AreNsecFor, AreAt, DeniesBeside}
 

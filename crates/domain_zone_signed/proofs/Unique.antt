@@ -3,11 +3,11 @@ use Rattle.std.proofs.Common.{◌≡◌, ℕ, ◌≤◌, ◌⊎◌, List, [], �
 use Rattle.std.specs.List.{Contains}
 use Rattle.std.proofs.lemmas.List.Elements.{Contains-append_cases}
 use Rattle.domain_list.specs.Order.{SameLabels}
-use Rattle.domain_zone_laws.specs.Answers.{Reply, records, any_types, alias, no_data, Outcome, out_of_zone, referral, found, redirect, too_long, synthesized, name_error}
-use Rattle.domain_zone_laws.specs.Zone.{Zone, RRset, IsZone, DS, NSEC, IsAt, source_of_synthesis}
-use Rattle.domain_zone_laws.proofs.Deciding.{only_one}
-use Rattle.domain_zone_laws.proofs.Nodes.{one_encloser}
-use Rattle.domain_zone_laws.proofs.Total.{source_same}
+use Rattle.domain_zone.specs.Answers.{Reply, records, any_types, alias, no_data, Outcome, out_of_zone, referral, found, redirect, too_long, synthesized, name_error}
+use Rattle.domain_zone.specs.Zone.{Zone, RRset, IsZone, DS, NSEC, IsAt, source_of_synthesis}
+use Rattle.domain_zone.proofs.Deciding.{only_one}
+use Rattle.domain_zone.proofs.Nodes.{one_encloser}
+use Rattle.domain_zone.proofs.Total.{source_same}
 use Rattle.domain_zone_signed.proofs.Chaining.{one_nsec, nsec_same}
 use Rattle.domain_zone_signed.proofs.Ordering.{Names}
 use Rattle.domain_zone_signed.specs.Denial.{AreNsecFor, AreOnce, AreNsecsFor, AreAt, AreOfCut, DeniesAt, DeniesBeside, DeniesFor}

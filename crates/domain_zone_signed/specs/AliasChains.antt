@@ -3,9 +3,9 @@
 use Rattle.std.specs.Prelude.{◌≡◌, ◌≢◌, ℕ, ◌≤◌, ◌⊎◌, List, [], ◌∷◌, ◌++◌, length, Option, Some, None}
 use Rattle.domain_list.specs.Ends.{EndsWith}
 use Rattle.domain_list.specs.Order.{SameLabels}
-use Rattle.domain_zone_laws.specs.Answers.{Answers, Reply, records, any_types, alias, no_data}
-use Rattle.domain_zone_laws.specs.Answers.{Outcome, out_of_zone, referral, found, redirect, too_long, synthesized, name_error}
-use Rattle.domain_zone_laws.specs.Zone.{Zone, CNAME, ANY, target}
+use Rattle.domain_zone.specs.Answers.{Answers, Reply, records, any_types, alias, no_data}
+use Rattle.domain_zone.specs.Answers.{Outcome, out_of_zone, referral, found, redirect, too_long, synthesized, name_error}
+use Rattle.domain_zone.specs.Zone.{Zone, CNAME, ANY, target}
 
 -- A question about a name, and what the zone answers to it.
 pub record Step : Type 0 where

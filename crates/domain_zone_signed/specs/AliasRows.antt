@@ -2,8 +2,8 @@
 use Rattle.std.specs.Prelude.{ℕ, List, [], ◌∷◌, codes}
 use Rattle.domain_label.specs.Wire.{wire, Root}
 use Rattle.domain_zone_signed.specs.AliasChains.{step, Chain, IsChain}
-use Rattle.domain_zone_laws.specs.Answers.{records, alias, no_data, referral, found, redirect, synthesized, name_error}
-use Rattle.domain_zone_laws.specs.Zone.{Zone, RRset, NS, CNAME, SOA, DNAME}
+use Rattle.domain_zone.specs.Answers.{records, alias, no_data, referral, found, redirect, synthesized, name_error}
+use Rattle.domain_zone.specs.Zone.{Zone, RRset, NS, CNAME, SOA, DNAME}
 
 abbrev A : ℕ
 A = 1

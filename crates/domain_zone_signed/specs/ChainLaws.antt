@@ -4,8 +4,8 @@ use Rattle.domain_label.specs.Spelling.{JustOne}
 use Rattle.domain_zone_answer.specs.Sections.{Sections}
 use Rattle.domain_zone_signed.specs.AliasChains.{IsChain}
 use Rattle.domain_zone_signed.specs.ChainSections.{Follows}
-use Rattle.domain_zone_laws.specs.Answers.{Outcome}
-use Rattle.domain_zone_laws.specs.Zone.{Zone, IsZone}
+use Rattle.domain_zone.specs.Answers.{Outcome}
+use Rattle.domain_zone.specs.Zone.{Zone, IsZone}
 
 -- Each question to a zone starts one chain, and no other.
 abbrev pub HasOneChain : Type 0

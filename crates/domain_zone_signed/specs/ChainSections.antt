@@ -3,8 +3,8 @@ use Rattle.std.specs.Prelude.{◌≡◌, ℕ, Bool, true, not, ◌==◌, ◌&&�
 use Rattle.domain_list.specs.Order.{same_name}
 use Rattle.domain_zone_answer.specs.Sections.{Sections, AreSections}
 use Rattle.domain_zone_signed.specs.AliasChains.{Step, step, step_name, IsChain}
-use Rattle.domain_zone_laws.specs.Answers.{Outcome}
-use Rattle.domain_zone_laws.specs.Zone.{Zone, RRset}
+use Rattle.domain_zone.specs.Answers.{Outcome}
+use Rattle.domain_zone.specs.Zone.{Zone, RRset}
 
 -- The outcome of the last question: the first has the outcome o, and these follow.
 abbrev pub last_outcome : Outcome → List Step → Outcome

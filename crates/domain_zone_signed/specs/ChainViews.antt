@@ -5,8 +5,8 @@ use Rattle.domain_zone_answer.specs.Views.{section_view, cname_view, response_ou
 use Rattle.domain_zone_signed.specs.declared.answer.AnswerRrset.{AnswerRrset}
 use Rattle.domain_zone_signed.specs.declared.answer.AnswerRrset.TheVariants.{Zones, Made}
 use Rattle.domain_zone_signed.specs.declared.chain.ChainResponse.{ChainResponse}
-use Rattle.domain_zone_laws.specs.Answers.{Outcome}
-use Rattle.domain_zone_laws.specs.Zone.{RRset}
+use Rattle.domain_zone.specs.Answers.{Outcome}
+use Rattle.domain_zone.specs.Zone.{RRset}
 
 -- The RRset as the section has it.
 abbrev pub answer_view : AnswerRrset → RRset

@@ -1,7 +1,7 @@
 -- Where the cut over records is.
 use Rattle.std.specs.Prelude.{ℕ, List, ◌⊎◌}
 use Rattle.domain_list.specs.Order.{SameLabels}
-use Rattle.domain_zone_laws.specs.Zone.{Zone, HasNoCut, IsFirstCut}
+use Rattle.domain_zone.specs.Zone.{Zone, HasNoCut, IsFirstCut}
 
 -- o is the first cut on the way to n, or n itself where no cut is on the way.
 abbrev pub IsCutOrSelf : Zone → List (List ℕ) → List (List ℕ) → Type 0

@@ -5,9 +5,9 @@ use Rattle.std.specs.Prelude.{◌≡◌, ◌≢◌, ℕ, List, [], ◌∷◌, �
 use Rattle.std.specs.declared.cmp.Ordering.TheVariants.{Greater}
 use Rattle.domain_list.specs.Ends.{EndsWith}
 use Rattle.domain_list.specs.Order.{canonical_order, SameLabels}
-use Rattle.domain_zone_laws.specs.Answers.{Reply, records, any_types, alias, no_data}
-use Rattle.domain_zone_laws.specs.Answers.{Outcome, out_of_zone, referral, found, redirect, too_long, synthesized, name_error}
-use Rattle.domain_zone_laws.specs.Zone.{Zone, RRset, DS, NSEC, IsAt, HasType, OwnsRecords, IsCut, IsClosestEncloser, source_of_synthesis}
+use Rattle.domain_zone.specs.Answers.{Reply, records, any_types, alias, no_data}
+use Rattle.domain_zone.specs.Answers.{Outcome, out_of_zone, referral, found, redirect, too_long, synthesized, name_error}
+use Rattle.domain_zone.specs.Zone.{Zone, RRset, DS, NSEC, IsAt, HasType, OwnsRecords, IsCut, IsClosestEncloser, source_of_synthesis}
 
 -- ---- the NSEC RRset for a name
 

@@ -3,8 +3,8 @@ use Rattle.std.specs.Prelude.{◌≡◌, ℕ, ◌≤◌, List, length, ◌⊎◌
 use Rattle.std.specs.List.{Contains}
 use Rattle.domain_label.specs.Spelling.{JustOne}
 use Rattle.domain_list.specs.Ends.{EndsWith}
-use Rattle.domain_zone_laws.specs.Answers.{Outcome, Answers, referral}
-use Rattle.domain_zone_laws.specs.Zone.{Zone, RRset, IsZone, DS, NSEC, IsAt, Exists, OwnsRecords}
+use Rattle.domain_zone.specs.Answers.{Outcome, Answers, referral}
+use Rattle.domain_zone.specs.Zone.{Zone, RRset, IsZone, DS, NSEC, IsAt, Exists, OwnsRecords}
 use Rattle.domain_zone_signed.specs.Denial.{IsInChain, IsNsecFor, DeniesFor}
 use Rattle.domain_zone_signed.specs.NsecChain.{HasNsecChain, Covers, ShowsNoRecords, ShowsNoName, Convinces}
 

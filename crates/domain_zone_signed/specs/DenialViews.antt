@@ -2,7 +2,7 @@
 use Rattle.std.specs.Prelude.{List, ◌++◌}
 use Rattle.domain_zone_answer.specs.Sets.{set_list}
 use Rattle.domain_zone_signed.specs.declared.denial.Denial.{Denial}
-use Rattle.domain_zone_laws.specs.Zone.{RRset}
+use Rattle.domain_zone.specs.Zone.{RRset}
 
 -- Its RRsets, in order.
 abbrev pub denial_list : Denial → List RRset

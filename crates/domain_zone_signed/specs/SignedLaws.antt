@@ -2,8 +2,8 @@
 use Rattle.std.specs.Prelude.{◌≡◌, ℕ, Bool, false, List}
 use Rattle.domain_zone_answer.specs.Sections.{Sections}
 use Rattle.domain_zone_signed.specs.ChainSections.{Follows}
-use Rattle.domain_zone_laws.specs.Answers.{Outcome}
-use Rattle.domain_zone_laws.specs.Zone.{Zone, IsZone}
+use Rattle.domain_zone.specs.Answers.{Outcome}
+use Rattle.domain_zone.specs.Zone.{Zone, IsZone}
 use Rattle.domain_zone_signed.specs.Signing.{FollowsWith}
 
 -- Two responses to a question, both to queries with the bit DO or both without it, have the same outcomes, the first

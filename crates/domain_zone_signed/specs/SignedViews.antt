@@ -3,8 +3,8 @@ use Rattle.std.specs.Prelude.{◌≡◌, ℕ, Bool, true, false, List, [], ◌�
 use Rattle.domain_name.specs.Names.{name_labels}
 use Rattle.domain_zone_answer.specs.Sections.{Sections}
 use Rattle.domain_zone_signed.specs.ChainViews.{answer_view, last_of}
-use Rattle.domain_zone_laws.specs.Answers.{Outcome}
-use Rattle.domain_zone_laws.specs.Zone.{Zone, RRset}
+use Rattle.domain_zone.specs.Answers.{Outcome}
+use Rattle.domain_zone.specs.Zone.{Zone, RRset}
 use Rattle.domain_zone_signed.specs.Signing.{signatures, AreSigned, AreDenials}
 use Rattle.domain_zone_signed.specs.declared.questions.Questions.{Questions}
 use Rattle.domain_zone_signed.specs.declared.response.SignedResponse.{SignedResponse}

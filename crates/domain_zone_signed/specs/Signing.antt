@@ -5,8 +5,8 @@ use Rattle.std.specs.List.{filter}
 use Rattle.domain_zone_answer.specs.Sections.{Sections}
 use Rattle.domain_zone_signed.specs.ChainSections.{IsFollowedBy, Follows, with_rrset}
 use Rattle.domain_zone_signed.specs.Denial.{DeniesFor}
-use Rattle.domain_zone_laws.specs.Answers.{Outcome, Answers}
-use Rattle.domain_zone_laws.specs.Zone.{Zone, RRset, RRSIG, IsAt, Exists, IsClosestEncloser, source_of_synthesis, covered_type}
+use Rattle.domain_zone.specs.Answers.{Outcome, Answers}
+use Rattle.domain_zone.specs.Zone.{Zone, RRset, RRSIG, IsAt, Exists, IsClosestEncloser, source_of_synthesis, covered_type}
 
 -- ---- signatures
 

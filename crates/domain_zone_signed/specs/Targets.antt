@@ -1,9 +1,9 @@
 -- What the code knows of where an outcome leads.
 use Rattle.std.specs.Prelude.{◌≡◌, ℕ, ⊤, List, Option}
 use Rattle.domain_zone_signed.specs.AliasChains.{alias_target}
-use Rattle.domain_zone_laws.specs.Answers.{Answers, Reply, records, any_types, alias, no_data}
-use Rattle.domain_zone_laws.specs.Answers.{Outcome, out_of_zone, referral, found, redirect, too_long, synthesized, name_error}
-use Rattle.domain_zone_laws.specs.Zone.{Zone, IsOneName}
+use Rattle.domain_zone.specs.Answers.{Answers, Reply, records, any_types, alias, no_data}
+use Rattle.domain_zone.specs.Answers.{Outcome, out_of_zone, referral, found, redirect, too_long, synthesized, name_error}
+use Rattle.domain_zone.specs.Zone.{Zone, IsOneName}
 
 -- If the reply is a CNAME, its data are one name.
 abbrev pub IsReplyOfName : Reply → Type 0

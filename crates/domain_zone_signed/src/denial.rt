@@ -5,9 +5,9 @@ ghost use Rattle.domain_name.specs.Names.{name_labels};
 ghost use Rattle.domain_zone.specs.Kept.{zone_view};
 ghost use Rattle.domain_zone.specs.Outcomes.{outcome_of};
 ghost use Rattle.domain_zone_answer.specs.Sets.{set_list};
-ghost use Rattle.domain_zone_laws.specs.Answers.{Answers, found, synthesized};
-ghost use Rattle.domain_zone_laws.specs.Views.{reply_of};
-ghost use Rattle.domain_zone_laws.specs.Zone.{Exists, IsClosestEncloser, source_of_synthesis};
+ghost use Rattle.domain_zone.specs.Answers.{Answers, found, synthesized};
+ghost use Rattle.domain_zone.specs.Views.{reply_of};
+ghost use Rattle.domain_zone.specs.Zone.{Exists, IsClosestEncloser, source_of_synthesis};
 ghost use Rattle.domain_zone_signed.specs.Denial.{AreOnce, AreNsecFor, AreNsecsFor, AreOfCut};
 ghost use Rattle.domain_zone_signed.specs.Denial.{DeniesAt, DeniesFor};
 ghost use Rattle.domain_zone_signed.specs.DenialViews.{denial_list};
@@ -16,8 +16,8 @@ use crate::nsec::nsec_for;
 use domain_list::comparing::eq_names;
 use domain_name::Name;
 use domain_zone::{Answer, Owner, Zone, source_of_synthesis};
-use domain_zone_laws::reply::Reply;
-use domain_zone_laws::zone::Rrset;
+use domain_zone::reply::Reply;
+use domain_zone::zone::Rrset;
 
 /// The RRsets that show what a zone doesn't have: at most two.
 #[derive(Clone, Copy)]

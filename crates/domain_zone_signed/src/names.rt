@@ -6,7 +6,7 @@ ghost use Rattle.domain_zone.specs.Kept.{zone_view};
 ghost use Rattle.domain_zone.specs.Outcomes.{outcome_of};
 ghost use Rattle.domain_zone_signed.specs.AliasChains.{IsAmong};
 ghost use Rattle.domain_zone_signed.specs.ChainSections.{IsFollowedBy};
-ghost use Rattle.domain_zone_laws.specs.Answers.{Answers};
+ghost use Rattle.domain_zone.specs.Answers.{Answers};
 
 use crate::target::{next_name, target_of};
 use domain_list::comparing::eq_names;

@@ -4,14 +4,14 @@ ghost use Rattle.domain_list.specs.Ends.{EndsWith};
 ghost use Rattle.domain_name.specs.Names.{name_labels};
 ghost use Rattle.domain_zone.specs.Kept.{zone_view};
 ghost use Rattle.domain_zone.specs.Records.{set_view};
-ghost use Rattle.domain_zone_laws.specs.Zone.{RRset, IsAt, NSEC};
+ghost use Rattle.domain_zone.specs.Zone.{RRset, IsAt, NSEC};
 ghost use Rattle.domain_zone_signed.specs.Denial.{IsNsecFor};
 ghost use Rattle.domain_zone_signed.specs.Cuts.{IsCutOrSelf};
 
 use domain_list::ToLabelIter;
 use domain_zone::{Answer, Owner, Zone};
-use domain_zone_laws::find::place_of;
-use domain_zone_laws::zone::Rrset;
+use domain_zone::find::place_of;
+use domain_zone::zone::Rrset;
 
 /// The NSEC RRset at the first cut on the way to a name in the zone, or at the name where no cut is on the way.
 fn nsec_at_cut_or_self<'z>(zone: &'z Zone, owner: &Owner) -> Option<&'z Rrset<Owner>>

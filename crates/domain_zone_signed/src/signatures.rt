@@ -3,15 +3,15 @@ ghost use Rattle.std.specs.Prelude.{◌≡◌, IsTrue, ◌↔◌, MatchOption, m
 ghost use Rattle.domain_name.specs.Names.{name_labels};
 ghost use Rattle.domain_zone.specs.Kept.{zone_view};
 ghost use Rattle.domain_zone.specs.Records.{set_view};
-ghost use Rattle.domain_zone_laws.specs.Zone.{RRset};
+ghost use Rattle.domain_zone.specs.Zone.{RRset};
 ghost use Rattle.domain_zone_signed.specs.Signing.{IsSignatureSet, IsCovered, AreSignaturesOf};
 ghost use Rattle.domain_zone_signed.specs.SignedViews.{signature_list};
 
 use domain_name::Name;
 use domain_zone::{Owner, Zone, source_of_synthesis};
-use domain_zone_laws::reply::exists;
-use domain_zone_laws::ttl::covered_type;
-use domain_zone_laws::zone::Rrset;
+use domain_zone::reply::exists;
+use domain_zone::ttl::covered_type;
+use domain_zone::zone::Rrset;
 
 /// The RRSIG records in a section that cover an RRset (RFC 4035, 3.1.1).
 ///

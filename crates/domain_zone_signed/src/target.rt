@@ -6,15 +6,15 @@ ghost use Rattle.domain_zone.specs.Outcomes.{outcome_of};
 ghost use Rattle.domain_zone.specs.Records.{set_view};
 ghost use Rattle.domain_zone_signed.specs.AliasChains.{reply_target, alias_target};
 ghost use Rattle.domain_zone_signed.specs.Targets.{IsReplyOfName, IsOfName, HasTarget};
-ghost use Rattle.domain_zone_laws.specs.Views.{reply_of};
-ghost use Rattle.domain_zone_laws.specs.Zone.{IsOneName, target};
+ghost use Rattle.domain_zone.specs.Views.{reply_of};
+ghost use Rattle.domain_zone.specs.Zone.{IsOneName, target};
 
 use domain_list::AbsoluteLabels;
 use domain_name::Name;
 use domain_traits::ToName;
 use domain_zone::{Answer, Owner, Zone};
-use domain_zone_laws::reply::Reply;
-use domain_zone_laws::zone::Rrset;
+use domain_zone::reply::Reply;
+use domain_zone::zone::Rrset;
 use std::alloc::{AllocError, Global};
 
 /// Returns the target of a CNAME.

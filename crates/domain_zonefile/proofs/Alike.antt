@@ -7,8 +7,8 @@ use Rattle.domain_list.proofs.AncestorLaws.{tells_apart}
 use Rattle.domain_list.specs.Ends.{EndsWith}
 use Rattle.domain_list.specs.Order.{SameLabels}
 use Rattle.domain_zone.proofs.Good.{apart_from}
-use Rattle.domain_zone_laws.specs.Sorted.{IsSorted}
-use Rattle.domain_zone_laws.specs.Zone.{Zone, RRset, IsZone, IsAt, IsCut, IsDataType, IsOneName, HasType, Exists, AllDiffer, NS, CNAME, SOA, DNAME, DS, NSEC3, source_of_synthesis}
+use Rattle.domain_zone.specs.Sorted.{IsSorted}
+use Rattle.domain_zone.specs.Zone.{Zone, RRset, IsZone, IsAt, IsCut, IsDataType, IsOneName, HasType, Exists, AllDiffer, NS, CNAME, SOA, DNAME, DS, NSEC3, source_of_synthesis}
 use Rattle.domain_zonefile.proofs.Members.{all_from}
 use Rattle.domain_zonefile.proofs.Same.{Alike}
 

@@ -13,7 +13,7 @@ use Rattle.domain_rdata_text.specs.Texts.{data_text, data_words}
 use Rattle.domain_rdata_text.specs.Values.{Val}
 use Rattle.domain_rdata_text.specs.Words.{joined, spaced}
 use Rattle.domain_zone.specs.Building.{Inserted}
-use Rattle.domain_zone_laws.specs.Zone.{Zone, RRset}
+use Rattle.domain_zone.specs.Zone.{Zone, RRset}
 use Rattle.domain_zonefile.specs.Lines.{Written, record_line}
 use Rattle.domain_zonefile.proofs.Starting.{HasWord, has_word}
 use Rattle.domain_zonefile.proofs.Members.{inserted_by}

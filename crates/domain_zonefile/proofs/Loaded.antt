@@ -22,9 +22,9 @@ use Rattle.domain_zone.proofs.Had.{canonical_had, zone_had}
 use Rattle.domain_zone.specs.Building.{Inserted, Holds}
 use Rattle.domain_zone.specs.Kept.{zone_view}
 use Rattle.domain_zone.specs.declared.kept.Zone as kept
-use Rattle.domain_zone_laws.specs.Views.{rrset, zone_of}
-use Rattle.domain_zone_laws.specs.Zone.{Zone, RRset, IsDataType, IsZone, covered_type, lower_covered, lower_ttl, lowest_covered, NSEC3, record_ttl, RRSIG}
-use Rattle.domain_zone_laws.specs.declared.zone.SignatureTtl.{SignatureTtl}
+use Rattle.domain_zone.specs.Views.{rrset, zone_of}
+use Rattle.domain_zone.specs.Zone.{Zone, RRset, IsDataType, IsZone, covered_type, lower_covered, lower_ttl, lowest_covered, NSEC3, record_ttl, RRSIG}
+use Rattle.domain_zone.specs.declared.zone.SignatureTtl.{SignatureTtl}
 use Rattle.domain_zonefile.specs.Loads.{HasEntries, IsZoneOf, records_of}
 use Rattle.domain_zonefile.specs.Takings.{first_setting, IsTaken, records_of_entry}
 use Rattle.domain_zonefile.proofs.Owning.{entry_names}

@@ -10,7 +10,7 @@ use Rattle.domain_zone.specs.declared.building.InsertError.{InsertError}
 use Rattle.domain_zone.specs.declared.building.InsertError.TheVariants as insert
 use Rattle.domain_zone.specs.declared.fault.ZoneFault.{ZoneFault}
 use Rattle.domain_zone.specs.declared.kept.Zone as kept
-use Rattle.domain_zone_laws.specs.Zone.{Zone}
+use Rattle.domain_zone.specs.Zone.{Zone}
 use Rattle.domain_zonefile.specs.declared.load_error.LoadError.{LoadError}
 use Rattle.domain_zonefile.specs.declared.load_error.LoadError.TheVariants as load
 use Rattle.domain_zonefile.specs.Loads.{FailsAt, HasEntries, IsNoZone, IsText, IsZoneOf, MakesNone, records_of, StopsAt}

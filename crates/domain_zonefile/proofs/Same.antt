@@ -11,10 +11,10 @@ use Rattle.domain_list.specs.NameLaws.{order_is_total}
 use Rattle.domain_zone.proofs.Good.{apart_from}
 use Rattle.domain_zone.specs.Building.{Inserted, signature_ttl, HasRecord, Holds, IsMadeOf, IsOf, SameKey}
 use Rattle.domain_zone.specs.Faults.{IsAscending, IsCanonical}
-use Rattle.domain_zone_laws.proofs.Places.{before_down, not_before_itself}
-use Rattle.domain_zone_laws.specs.Sorted.{ComesBefore}
-use Rattle.domain_zone_laws.specs.Zone.{Zone, RRset, RRSIG, AllDiffer, IsZone, covered_type, lowest_covered, record_ttl}
-use Rattle.domain_zone_laws.specs.declared.zone.SignatureTtl.{SignatureTtl}
+use Rattle.domain_zone.proofs.Places.{before_down, not_before_itself}
+use Rattle.domain_zone.specs.Sorted.{ComesBefore}
+use Rattle.domain_zone.specs.Zone.{Zone, RRset, RRSIG, AllDiffer, IsZone, covered_type, lowest_covered, record_ttl}
+use Rattle.domain_zone.specs.declared.zone.SignatureTtl.{SignatureTtl}
 use Rattle.domain_zonefile.proofs.Members.{inserted_by, first_in, in_map, of_map, map_same, in_flat, of_flat, flat_same, in_cases, none_in, zipped, zip_same}
 use Rattle.domain_zonefile.proofs.Ttls.{lowest_is}
 use Rattle.domain_zonefile.specs.Texts.{record_of, set_records, zone_records}

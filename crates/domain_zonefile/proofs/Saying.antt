@@ -8,7 +8,7 @@ use Rattle.domain_list.specs.Ends.{EndsWith}
 use Rattle.domain_rdata_text.proofs.Holding.{name_val}
 use Rattle.domain_rdata_text.specs.Laws.{AreOctets}
 use Rattle.domain_zone.specs.Building.{Inserted}
-use Rattle.domain_zone_laws.specs.Zone.{Zone, RRset, IsDataType, NSEC3}
+use Rattle.domain_zone.specs.Zone.{Zone, RRset, IsDataType, NSEC3}
 use Rattle.domain_zonefile.specs.Loads.{HasEntries}
 use Rattle.domain_zonefile.specs.Takings.{CanBeIn, first_setting, IsTaken}
 use Rattle.domain_zonefile.proofs.Lines.{reads_records}

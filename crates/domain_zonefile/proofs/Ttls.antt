@@ -2,8 +2,8 @@
 use Rattle.std.proofs.Common.{◌≡◌, ◌∙◌, ℕ, ◌⊎◌, ◌==◌, Bool, true, false, cond, List, [], ◌∷◌, Option, Some, None, min, refl, ap, inl, inr, ⊎_elim, arith}
 use Rattle.std.specs.List.{Contains, fold}
 use Rattle.std.proofs.lemmas.Bool.{eqb-true, eq-eqb, false≢true}
-use Rattle.domain_zone_laws.specs.Zone.{lower_ttl, lower_covered, lowest_covered}
-use Rattle.domain_zone_laws.specs.declared.zone.SignatureTtl.{SignatureTtl}
+use Rattle.domain_zone.specs.Zone.{lower_ttl, lower_covered, lowest_covered}
+use Rattle.domain_zone.specs.declared.zone.SignatureTtl.{SignatureTtl}
 use Rattle.domain_zonefile.proofs.Members.{first_in, later_in, in_cases, none_in}
 
 -- none, or this

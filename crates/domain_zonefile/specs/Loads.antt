@@ -13,7 +13,7 @@ use Rattle.domain_zone.specs.declared.building.InsertError.TheVariants as insert
 use Rattle.domain_zone.specs.declared.building.ZoneBuilder.{ZoneBuilder}
 use Rattle.domain_zone.specs.declared.fault.ZoneFault.{ZoneFault}
 use Rattle.domain_zone.specs.declared.kept.Zone as kept
-use Rattle.domain_zone_laws.specs.Zone.{Zone}
+use Rattle.domain_zone.specs.Zone.{Zone}
 use Rattle.domain_zonefile.specs.declared.error.EntryError.{EntryError}
 use Rattle.domain_zonefile.specs.declared.error.EntryError.TheVariants as entry
 use Rattle.domain_zonefile.specs.declared.error.EntryReason.{EntryReason}

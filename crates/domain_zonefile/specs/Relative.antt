@@ -11,7 +11,7 @@ use Rattle.domain_rdata_text.specs.Rtypes.{type_text}
 use Rattle.domain_rdata_text.specs.Texts.{data_words}
 use Rattle.domain_rdata_text.specs.Words.{joined}
 use Rattle.domain_zone.specs.Building.{Inserted}
-use Rattle.domain_zone_laws.specs.Zone.{Zone}
+use Rattle.domain_zone.specs.Zone.{Zone}
 use Rattle.domain_zonefile.specs.Lines.{Written}
 use Rattle.domain_zonefile.specs.Texts.{IsLineOf, zone_records}
 

@@ -5,7 +5,7 @@ use Rattle.domain_list.specs.Ends.{EndsWith}
 use Rattle.domain_zone.specs.Building.{Inserted}
 use Rattle.domain_zone.specs.declared.building.InsertError.{InsertError}
 use Rattle.domain_zone.specs.declared.building.InsertError.TheVariants.{OtherClass, OutOfZone, NotDataType, Memory}
-use Rattle.domain_zone_laws.specs.Zone.{NSEC3, IsDataType}
+use Rattle.domain_zone.specs.Zone.{NSEC3, IsDataType}
 use Rattle.domain_zonefile.specs.declared.reading.Record as text
 use Rattle.domain_zonefile.specs.Directives.{Line}
 use Rattle.domain_zonefile.specs.Directives.Line.{origin, default_ttl, include, include_at}

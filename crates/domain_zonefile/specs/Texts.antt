@@ -15,7 +15,7 @@ use Rattle.domain_rdata_text.specs.Values.{Val, ValuesAt}
 use Rattle.domain_rdata_text.specs.Values.Val.{generic}
 use Rattle.domain_rdata_text.specs.Words.{spaced}
 use Rattle.domain_zone.specs.Building.{Inserted}
-use Rattle.domain_zone_laws.specs.Zone.{Zone, RRset, record_ttl}
+use Rattle.domain_zone.specs.Zone.{Zone, RRset, record_ttl}
 use Rattle.domain_zonefile.specs.Lines.{Written, record_line, record_lines}
 
 -- the record of an RRset with these data, which has a TTL of its own

@@ -11,7 +11,7 @@ use Rattle.domain_zone.specs.Faults.{IsCanonical}
 use Rattle.domain_zone.specs.Kept.{zone_class, zone_view}
 use Rattle.domain_zone.specs.declared.building.InsertError.TheVariants as insert
 use Rattle.domain_zone.specs.declared.kept.Zone as kept
-use Rattle.domain_zone_laws.specs.Zone.{Zone, IsZone}
+use Rattle.domain_zone.specs.Zone.{Zone, IsZone}
 use Rattle.domain_zonefile.specs.declared.load_error.LoadError.{LoadError}
 use Rattle.domain_zonefile.specs.declared.load_error.LoadError.TheVariants as load
 use Rattle.domain_zonefile.specs.Loads.{IsNoZone, IsZoneOf}

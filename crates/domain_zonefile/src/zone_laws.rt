@@ -1,7 +1,7 @@
 //! What is written is loaded.
 ghost use Rattle.std.specs.Prelude.{ℕ, List};
 ghost use Rattle.domain_zone.specs.declared.kept.Zone as kept;
-ghost use Rattle.domain_zone_laws.specs.Zone.{Zone};
+ghost use Rattle.domain_zone.specs.Zone.{Zone};
 ghost use Rattle.domain_zonefile.specs.ZoneLaws.{IsLoadedAgain, IsLoadedToBeReadable, IsRelativeLoadedAgain, IsRelativeToBeLoaded, IsWrittenToBeLoaded};
 
 /// The call does nothing: its contract is the law. The text of a zone is loaded as this zone, with each record's TTL,

@@ -6,17 +6,17 @@ ghost use Rattle.domain_list.specs.Ends.{EndsWith};
 ghost use Rattle.domain_name.specs.Names.{name_labels, relative_labels};
 ghost use Rattle.domain_zone.specs.Neighbours.{IsBeside};
 ghost use Rattle.domain_zone.specs.Records.{records_view};
-ghost use Rattle.domain_zone_laws.specs.Sorted.{IsSorted, IsPlace};
-ghost use Rattle.domain_zone_laws.specs.Zone.{RRset, IsZone, Exists, IsClosestEncloser};
-ghost use Rattle.domain_zone_laws.specs.Zone.{source_of_synthesis};
+ghost use Rattle.domain_zone.specs.Sorted.{IsSorted, IsPlace};
+ghost use Rattle.domain_zone.specs.Zone.{RRset, IsZone, Exists, IsClosestEncloser};
+ghost use Rattle.domain_zone.specs.Zone.{source_of_synthesis};
 
 use crate::names::Owner;
 use domain_list::ends::ends_with_labels;
 use domain_list::laws::order_laws;
 use domain_list::{Chain, ToLabelIter};
 use domain_name::{Name, RelativeName, SuffixIter};
-use domain_zone_laws::find::place_of;
-use domain_zone_laws::zone::ZoneRecords;
+use crate::find::place_of;
+use crate::zone::ZoneRecords;
 
 /// Whether the RRset at an index is at or below a name.
 pub(crate) fn is_below_at<'a, M: ToLabelIter<'a>>(

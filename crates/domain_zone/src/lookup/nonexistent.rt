@@ -4,10 +4,10 @@ ghost use Rattle.domain_list.specs.Ends.{EndsWith};
 ghost use Rattle.domain_name.specs.Names.{name_labels};
 ghost use Rattle.domain_zone.specs.Outcomes.{outcome_of, IsRedirection};
 ghost use Rattle.domain_zone.specs.Records.{records_view, set_view};
-ghost use Rattle.domain_zone_laws.specs.Answers.{Answers, IsAuthoritative};
-ghost use Rattle.domain_zone_laws.specs.Sorted.{IsSorted, IsPlace, IsLastBefore};
-ghost use Rattle.domain_zone_laws.specs.Zone.{IsZone, Exists, HasType, IsAt};
-ghost use Rattle.domain_zone_laws.specs.Zone.{IsOneName, target, DNAME};
+ghost use Rattle.domain_zone.specs.Answers.{Answers, IsAuthoritative};
+ghost use Rattle.domain_zone.specs.Sorted.{IsSorted, IsPlace, IsLastBefore};
+ghost use Rattle.domain_zone.specs.Zone.{IsZone, Exists, HasType, IsAt};
+ghost use Rattle.domain_zone.specs.Zone.{IsOneName, target, DNAME};
 
 use crate::lookup::encloser::{closest_encloser, is_below_at};
 use crate::lookup::outcome::Answer;
@@ -15,10 +15,10 @@ use crate::names::Owner;
 use domain_list::Chain;
 use domain_list::laws::order_laws;
 use domain_name::{Name, RelativeName};
-use domain_zone_laws::find::place_of;
-use domain_zone_laws::reading::find_before;
-use domain_zone_laws::reply::reply_from;
-use domain_zone_laws::zone::{Rrset, ZoneRecords};
+use crate::find::place_of;
+use crate::reading::find_before;
+use crate::reply::reply_from;
+use crate::zone::{Rrset, ZoneRecords};
 
 /// Where a CNAME or a DNAME leads.
 fn target_of<'a>(alias: &'a Rrset<Owner>) -> Name<&'a [u8]>

@@ -8,8 +8,8 @@ use crate::names::Owner;
 use domain_header::Rcode;
 use domain_list::Chain;
 use domain_name::{Name, RelativeName};
-use domain_zone_laws::reply::Reply;
-use domain_zone_laws::zone::Rrset;
+use crate::reply::Reply;
+use crate::zone::Rrset;
 
 /// The labels of a name before those of a DNAME's owner, and then the DNAME's target (RFC 6672, 2.2).
 pub type Substitution<'a> = Chain<RelativeName<&'a [u8]>, Name<&'a [u8]>>;

@@ -3,14 +3,14 @@ ghost use Rattle.std.specs.Prelude.{MatchOption};
 ghost use Rattle.domain_name.specs.Names.{name_labels};
 ghost use Rattle.domain_zone.specs.Cuts.{IsUnderCutsOf, TellsCuts};
 ghost use Rattle.domain_zone.specs.Records.{records_view, set_view};
-ghost use Rattle.domain_zone_laws.specs.Answers.{IsReferred};
-ghost use Rattle.domain_zone_laws.specs.Zone.{RRset, IsAt, HasNoCut, IsFirstCut, NS};
+ghost use Rattle.domain_zone.specs.Answers.{IsReferred};
+ghost use Rattle.domain_zone.specs.Zone.{RRset, IsAt, HasNoCut, IsFirstCut, NS};
 
 use crate::names::Owner;
 use domain_list::comparing::eq_names;
 use domain_list::ends::ends_with_labels;
 use domain_name::Name;
-use domain_zone_laws::zone::{Rrset, ZoneRecords};
+use crate::zone::{Rrset, ZoneRecords};
 
 /// The name servers of the first cut on the way to a name.
 ///

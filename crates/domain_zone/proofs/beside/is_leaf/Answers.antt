@@ -3,9 +3,9 @@ use Rattle.std.proofs.lemmas.Bool.{ltb-true}
 use Rattle.std.proofs.lemmas.List.{length-map}
 use Rattle.domain_list.specs.Ends.{EndsWith}
 use Rattle.domain_name.specs.Names.{name_labels}
-use Rattle.domain_zone_laws.specs.Views.{rrset, zone_of}
-use Rattle.domain_zone_laws.specs.Zone.{RRset}
-use Rattle.domain_zone_laws.proofs.Places.{view_at}
+use Rattle.domain_zone.specs.Views.{rrset, zone_of}
+use Rattle.domain_zone.specs.Zone.{RRset}
+use Rattle.domain_zone.proofs.Places.{view_at}
 use Rattle.domain_zone.proofs.Leaves.{leaf_from, no_leaf, test_fails, test_failed}
 use Rattle.domain_zone.proofs.beside.is_leaf.Goals as goal
 

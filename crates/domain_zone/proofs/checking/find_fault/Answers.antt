@@ -4,8 +4,8 @@ use Rattle.std.proofs.lemmas.List.Elements.{All-map}
 use Rattle.domain_label.specs.Wire.{IsAbsoluteName}
 use Rattle.domain_name.specs.Names.{name_labels}
 use Rattle.domain_zone.proofs.Good.{canonical_from, small_from, zone_from}
-use Rattle.domain_zone_laws.specs.Views.{rrset, zone_of}
-use Rattle.domain_zone_laws.specs.Zone.{RRset}
+use Rattle.domain_zone.specs.Views.{rrset, zone_of}
+use Rattle.domain_zone.specs.Zone.{RRset}
 use Rattle.domain_zone.proofs.checking.find_fault.Goals as goal
 
 pub first_fault_beside-requires-clause-types : goal.first_fault_beside-requires-clause-types

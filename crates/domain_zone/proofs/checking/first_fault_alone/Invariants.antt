@@ -2,7 +2,7 @@ use Rattle.std.proofs.Common.{take}
 use Rattle.std.specs.List.{All}
 use Rattle.domain_name.specs.Names.{name_labels}
 use Rattle.domain_zone.specs.Faults.{IsSound}
-use Rattle.domain_zone_laws.specs.Views.{rrset, zone_of}
+use Rattle.domain_zone.specs.Views.{rrset, zone_of}
 use Rattle.domain_zone.proofs.checking.first_fault_alone.Given as goal
 
 -- those so far are sound

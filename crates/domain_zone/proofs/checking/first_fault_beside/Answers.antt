@@ -3,8 +3,8 @@ use Rattle.std.proofs.lemmas.List.Elements.{All-map}
 use Rattle.domain_name.specs.Names.{name_labels}
 use Rattle.domain_zone.specs.Faults.{IsFitting}
 use Rattle.domain_zone.proofs.Good.{fault_at}
-use Rattle.domain_zone_laws.specs.Views.{rrset, zone_of}
-use Rattle.domain_zone_laws.proofs.Lists.{all_more, all_of}
+use Rattle.domain_zone.specs.Views.{rrset, zone_of}
+use Rattle.domain_zone.proofs.Lists.{all_more, all_of}
 use Rattle.domain_zone.proofs.checking.first_fault_beside.Goals as goal
 
 pub returns-in-Some : goal.returns-in-Some

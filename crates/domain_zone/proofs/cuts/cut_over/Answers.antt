@@ -2,9 +2,9 @@ use Rattle.std.proofs.Common.{◌≡◌, ◌≢◌, ◌+◌, ◌<◌, ◌≤◌,
 use Rattle.std.proofs.lemmas.List.{get_or_default, length-map}
 use Rattle.domain_name.specs.Names.{name_labels}
 use Rattle.domain_zone.specs.Cuts.{TellsCut}
-use Rattle.domain_zone_laws.specs.Views.{rrset, zone_of}
-use Rattle.domain_zone_laws.specs.Zone.{RRset, HasNoCut}
-use Rattle.domain_zone_laws.proofs.Places.{view_at}
+use Rattle.domain_zone.specs.Views.{rrset, zone_of}
+use Rattle.domain_zone.specs.Zone.{RRset, HasNoCut}
+use Rattle.domain_zone.proofs.Places.{view_at}
 use Rattle.domain_zone.proofs.FirstCuts.{under, at_apex, own, none}
 use Rattle.domain_zone.proofs.cuts.cut_over.Goals as goal
 

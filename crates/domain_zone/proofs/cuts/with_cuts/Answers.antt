@@ -1,10 +1,10 @@
 use Rattle.std.proofs.Common.{◌≡◌, ◌≤◌, ◌<◌, List, length, map, get_or, refl, sym, ap, ◌∙◌, subst, arith}
 use Rattle.std.proofs.lemmas.List.{length-map}
 use Rattle.domain_name.specs.Names.{name_labels}
-use Rattle.domain_zone_laws.specs.Views.{rrset, zone_of}
-use Rattle.domain_zone_laws.specs.Zone.{Zone, RRset, IsZone}
-use Rattle.domain_zone_laws.specs.Sorted.{IsSorted}
-use Rattle.domain_zone_laws.proofs.Places.{view_at}
+use Rattle.domain_zone.specs.Views.{rrset, zone_of}
+use Rattle.domain_zone.specs.Zone.{Zone, RRset, IsZone}
+use Rattle.domain_zone.specs.Sorted.{IsSorted}
+use Rattle.domain_zone.proofs.Places.{view_at}
 use Rattle.domain_zone.specs.Cuts.{TellsCut, TellsCutBefore, TellsCuts}
 use Rattle.domain_zone.proofs.SettingCuts.{TellsCutsUpTo, with_cut, more_cuts, next_before, same_views}
 use Rattle.domain_zone.proofs.cuts.with_cuts.Goals as goal

@@ -3,7 +3,7 @@ use Rattle.domain_name.specs.Names.{name_labels}
 use Rattle.domain_zone.specs.Cuts.{IsUnderCutsOf}
 use Rattle.domain_zone.proofs.Neighbours.{exists_below, below_from}
 use Rattle.domain_zone.proofs.Near.{near_of}
-use Rattle.domain_zone_laws.specs.Views.{zone_of}
+use Rattle.domain_zone.specs.Views.{zone_of}
 use Rattle.domain_zone.proofs.lookup.lookup_records.Goals as goal
 
 pub referral-requires-clause-near : goal.referral-requires-clause-near

@@ -5,7 +5,7 @@ use Rattle.domain_name.specs.Names.{name_labels}
 use Rattle.domain_zone.specs.Entries.{entry_view}
 use Rattle.domain_zone.specs.Records.{records_view}
 use Rattle.domain_zone.proofs.Adding.{Building, building_none, building_more, canonical_none, holds_from}
-use Rattle.domain_zone_laws.specs.Views.{rrset}
+use Rattle.domain_zone.specs.Views.{rrset}
 use Rattle.domain_zone.proofs.merging.merged.Goals as goal
 
 pub loop-entry-init : goal.loop-entry-init

@@ -4,8 +4,8 @@ use Rattle.domain_zone.specs.Building.{Adds, BeginsAt, JoinsAt, one_record}
 use Rattle.domain_zone.specs.Entries.{entry_view}
 use Rattle.domain_zone.specs.Faults.{IsCanonical}
 use Rattle.domain_zone.specs.Records.{records_view}
-use Rattle.domain_zone_laws.specs.Zone.{HasType}
-use Rattle.domain_zone_laws.proofs.Places.{reaches_at}
+use Rattle.domain_zone.specs.Zone.{HasType}
+use Rattle.domain_zone.proofs.Places.{reaches_at}
 use Rattle.domain_zone.proofs.Adding.{adds_at, adds_new, canonical_joined, canonical_new}
 use Rattle.domain_zone.proofs.merging.with_entry.Goals as goal
 

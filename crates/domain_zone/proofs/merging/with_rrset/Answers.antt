@@ -1,6 +1,6 @@
 use Rattle.std.proofs.Common.{map, insert, refl, ap, ◌∙◌}
 use Rattle.domain_name.specs.Names.{name_labels}
-use Rattle.domain_zone_laws.specs.Views.{rrset}
+use Rattle.domain_zone.specs.Views.{rrset}
 use Rattle.domain_zone.proofs.Adding.{map-insert}
 use Rattle.domain_zone.proofs.merging.with_rrset.Goals as goal
 

@@ -6,7 +6,7 @@ use Rattle.domain_zone_answer.proofs.AddressLaws.{none_of_no_name}
 use Rattle.domain_zone_answer.proofs.AddressSets.{listed}
 use Rattle.domain_zone_answer.specs.Addresses.{is_at_data}
 use Rattle.domain_zone_answer.specs.Sets.{set_list}
-use Rattle.domain_zone_laws.specs.Zone.{Zone, IsAt, HasType}
+use Rattle.domain_zone.specs.Zone.{Zone, IsAt, HasType}
 use Rattle.domain_zone_answer.proofs.addresses.address.Goals as goal
 
 pub returns-in_default : goal.returns-in_default

@@ -4,8 +4,8 @@ use Rattle.domain_zone.specs.Records.{records_view, set_view}
 use Rattle.domain_zone_answer.proofs.Wildcards.{answer_records, answer_alias, answer_any}
 use Rattle.domain_zone_answer.specs.Sections.{IsZoneAnswer}
 use Rattle.domain_zone_answer.specs.Views.{section_view}
-use Rattle.domain_zone_laws.specs.Answers.{records, any_types, alias, synthesized}
-use Rattle.domain_zone_laws.specs.Views.{reply_of}
+use Rattle.domain_zone.specs.Answers.{records, any_types, alias, synthesized}
+use Rattle.domain_zone.specs.Views.{reply_of}
 use Rattle.domain_zone_answer.proofs.answer.answer_synthesized.Goals as goal
 
 pub returns-in-Records : goal.returns-in-Records

@@ -3,7 +3,7 @@ use Rattle.domain_name.specs.Names.{name_labels, relative_labels}
 use Rattle.domain_zone.specs.Records.{records_view, set_view}
 use Rattle.domain_zone_answer.proofs.Wildcards.{inside, owns_source}
 use Rattle.domain_zone_answer.specs.Sections.{IsChosen}
-use Rattle.domain_zone_laws.specs.Zone.{OwnsRecords, source_of_synthesis}
+use Rattle.domain_zone.specs.Zone.{OwnsRecords, source_of_synthesis}
 use Rattle.domain_zone_answer.proofs.encloser.first_of_wildcard.Goals as goal
 
 pub source_of_synthesis-source-requires-clause-inside : goal.source_of_synthesis-source-requires-clause-inside

@@ -3,9 +3,9 @@ use Rattle.std.proofs.lemmas.Bool.{ltb-true}
 use Rattle.domain_list.specs.Order.{SameLabels}
 use Rattle.domain_zone.specs.Records.{records_view, set_view}
 use Rattle.domain_zone_answer.proofs.Choosing.{lowest}
-use Rattle.domain_zone_laws.specs.Zone.{RRset}
-use Rattle.domain_zone_laws.proofs.Lists.{one_viewed}
-use Rattle.domain_zone_laws.proofs.Places.{reaches_owner, view_at}
+use Rattle.domain_zone.specs.Zone.{RRset}
+use Rattle.domain_zone.proofs.Lists.{one_viewed}
+use Rattle.domain_zone.proofs.Places.{reaches_owner, view_at}
 use Rattle.domain_zone_answer.proofs.encloser.first_rrset.Goals as goal
 
 pub returns : goal.returns

@@ -1,7 +1,7 @@
 use Rattle.std.proofs.Common.{◌≡◌, ◌∙◌, sym, subst}
 use Rattle.domain_zone_answer.proofs.OneResponse.{one_sections}
 use Rattle.domain_zone_answer.specs.Sections.{AreSections}
-use Rattle.domain_zone_laws.specs.Answers.{Outcome}
+use Rattle.domain_zone.specs.Answers.{Outcome}
 use Rattle.domain_zone_answer.proofs.laws.response_laws.Goals as goal
 
 pub returns : goal.returns

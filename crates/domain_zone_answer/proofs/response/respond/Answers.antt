@@ -3,8 +3,8 @@ use Rattle.domain_name.specs.Names.{name_labels}
 use Rattle.domain_zone.specs.Outcomes.{outcome_of}
 use Rattle.domain_zone_answer.specs.Sections.{IsZoneAnswer, IsAuthoritySection}
 use Rattle.domain_zone_answer.specs.Views.{section_list}
-use Rattle.domain_zone_laws.specs.Answers.{Answers}
-use Rattle.domain_zone_laws.specs.Zone.{Zone}
+use Rattle.domain_zone.specs.Answers.{Answers}
+use Rattle.domain_zone.specs.Zone.{Zone}
 use Rattle.domain_zone_answer.proofs.response.respond.Goals as goal
 
 pub answer_section-answer-requires-clause-outcome : goal.answer_section-answer-requires-clause-outcome

@@ -1,6 +1,6 @@
 use Rattle.std.proofs.Common.{refl}
 use Rattle.domain_header.specs.Values.{class_number}
-use Rattle.domain_zone_laws.specs.Zone.{RRSIG}
+use Rattle.domain_zone.specs.Zone.{RRSIG}
 use Rattle.domain_zone_response.proofs.Growing.{head_is}
 use Rattle.domain_zone_response.proofs.rrset.signature_head.Goals as goal
 

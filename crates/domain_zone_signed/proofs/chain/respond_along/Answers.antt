@@ -2,7 +2,7 @@ use Rattle.std.proofs.Common.{map, fold, subst, sym, ap, ◌∙◌, ◌++◌, �
 use Rattle.std.proofs.lemmas.List.{map_more}
 use Rattle.domain_name.specs.Names.{name_labels}
 use Rattle.domain_zone_answer.specs.Views.{response_sections}
-use Rattle.domain_zone_laws.specs.Zone.{IsZone}
+use Rattle.domain_zone.specs.Zone.{IsZone}
 use Rattle.domain_zone_signed.specs.ChainSections.{with_rrset}
 use Rattle.domain_zone_signed.specs.ChainViews.{answer_views}
 use Rattle.domain_zone_signed.proofs.Joining.{follows_first, follows_more, follows_all}

@@ -2,7 +2,7 @@ use Rattle.std.proofs.Common.{ℕ, subst}
 use Rattle.domain_name.specs.Names.{name_labels}
 use Rattle.domain_zone.specs.Kept.{zone_view}
 use Rattle.domain_zone.specs.Outcomes.{outcome_of}
-use Rattle.domain_zone_laws.specs.Answers.{Answers}
+use Rattle.domain_zone.specs.Answers.{Answers}
 use Rattle.domain_zone_signed.proofs.denial.denial_for.Goals as goal
 
 pub with_source-requires-clause-inside : goal.with_source-requires-clause-inside

@@ -1,9 +1,9 @@
 use Rattle.std.proofs.Common.{◌≡◌, sym, ap, subst}
 use Rattle.domain_name.specs.Names.{name_labels}
 use Rattle.domain_zone.specs.Kept.{zone_view}
-use Rattle.domain_zone_laws.specs.Answers.{no_data}
-use Rattle.domain_zone_laws.specs.Views.{reply_of}
-use Rattle.domain_zone_laws.specs.Zone.{source_of_synthesis}
+use Rattle.domain_zone.specs.Answers.{no_data}
+use Rattle.domain_zone.specs.Views.{reply_of}
+use Rattle.domain_zone.specs.Zone.{source_of_synthesis}
 use Rattle.domain_zone_signed.proofs.Sources.{beside_other}
 use Rattle.domain_zone_signed.specs.Denial.{DeniesBeside}
 use Rattle.domain_zone_signed.specs.DenialViews.{denial_list}

@@ -2,7 +2,7 @@ use Rattle.std.proofs.Common.{refl, inl, inr}
 use Rattle.domain_name.specs.Names.{name_labels}
 use Rattle.domain_zone.specs.Kept.{zone_view}
 use Rattle.domain_zone.specs.Records.{set_view}
-use Rattle.domain_zone_laws.specs.Zone.{NSEC}
+use Rattle.domain_zone.specs.Zone.{NSEC}
 use Rattle.domain_zone_signed.proofs.Sources.{at_list}
 use Rattle.domain_zone_signed.proofs.denial.of_cut.Goals as goal
 

@@ -6,7 +6,7 @@ use Rattle.domain_zone.specs.Records.{set_view}
 use Rattle.domain_zone_answer.specs.Sets.{set_list}
 use Rattle.domain_zone_signed.proofs.Sources.{for_set}
 use Rattle.domain_zone_signed.specs.Denial.{IsNsecFor}
-use Rattle.domain_zone_laws.specs.Zone.{Zone, RRset, Exists, IsClosestEncloser, source_of_synthesis}
+use Rattle.domain_zone.specs.Zone.{Zone, RRset, Exists, IsClosestEncloser, source_of_synthesis}
 use Rattle.domain_zone_signed.proofs.denial.with_source.Goals as goal
 
 pub source_of_synthesis-source-requires-clause-inside : goal.source_of_synthesis-source-requires-clause-inside

@@ -5,7 +5,7 @@ use Rattle.domain_zone_answer.specs.Sets.{set_list}
 use Rattle.domain_zone_signed.specs.ChainSections.{with_rrset}
 use Rattle.domain_zone_signed.specs.ChainViews.{answer_views}
 use Rattle.domain_zone_signed.specs.DenialViews.{denial_list}
-use Rattle.domain_zone_laws.specs.Zone.{RRset}
+use Rattle.domain_zone.specs.Zone.{RRset}
 use Rattle.domain_zone_signed.proofs.Signing.{fold_both}
 use Rattle.domain_zone_signed.proofs.denials.push_denial.Goals as goal
 

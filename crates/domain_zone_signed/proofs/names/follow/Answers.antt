@@ -1,7 +1,7 @@
 use Rattle.std.proofs.Common.{map, option_map, length, subst, ap, ◌∙◌, arith, length-append, [], ◌∷◌}
 use Rattle.std.proofs.lemmas.List.{map-append, length-map}
 use Rattle.domain_name.specs.Names.{name_labels}
-use Rattle.domain_zone_laws.specs.Zone.{IsZone}
+use Rattle.domain_zone.specs.Zone.{IsZone}
 use Rattle.domain_zone_signed.proofs.Leading.{of_name, leads_none, leads_on, ends_asked, ends_nowhere, ends_there, ends_full}
 use Rattle.domain_zone_signed.proofs.names.follow.Goals.{then-rtype-eq5-via-then-rtype-eq5, then-rtype-eq5-via-else-rtype-eq5+then-rtype-eq255}
 use Rattle.domain_zone_signed.proofs.names.follow.Goals as goal

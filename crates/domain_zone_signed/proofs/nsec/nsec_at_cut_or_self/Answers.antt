@@ -3,8 +3,8 @@ use Rattle.domain_name.specs.Names.{name_labels}
 use Rattle.domain_zone.specs.Kept.{zone_view}
 use Rattle.domain_zone.specs.Outcomes.{outcome_of}
 use Rattle.domain_zone.specs.Records.{set_view}
-use Rattle.domain_zone_laws.specs.Answers.{Answers, IsReferred}
-use Rattle.domain_zone_laws.specs.Zone.{NSEC}
+use Rattle.domain_zone.specs.Answers.{Answers, IsReferred}
+use Rattle.domain_zone.specs.Zone.{NSEC}
 use Rattle.domain_zone_signed.proofs.Searching.{for_referral, for_self, no_cut_of}
 use Rattle.domain_zone_signed.proofs.nsec.nsec_at_cut_or_self.Goals as goal
 

@@ -3,9 +3,9 @@ use Rattle.std.proofs.lemmas.List.{length-map}
 use Rattle.domain_list.specs.Ends.{EndsWith}
 use Rattle.domain_name.specs.Names.{name_labels}
 use Rattle.domain_zone.specs.Records.{records_view, set_view}
-use Rattle.domain_zone_laws.proofs.Lists.{one_viewed}
-use Rattle.domain_zone_laws.proofs.Places.{view_at}
-use Rattle.domain_zone_laws.specs.Zone.{Zone, RRset}
+use Rattle.domain_zone.proofs.Lists.{one_viewed}
+use Rattle.domain_zone.proofs.Places.{view_at}
+use Rattle.domain_zone.specs.Zone.{Zone, RRset}
 use Rattle.domain_zone_signed.proofs.Chaining.{inside_of}
 use Rattle.domain_zone_signed.proofs.Searching.{IsAtCutOrSelf, none_up_to, for_name}
 use Rattle.domain_zone_signed.specs.Denial.{IsNsecFor}

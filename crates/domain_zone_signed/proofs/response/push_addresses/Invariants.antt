@@ -1,7 +1,7 @@
 use Rattle.std.proofs.Common.{◌≡◌, ◌++◌, List}
 use Rattle.domain_zone.specs.Kept.{zone_view}
 use Rattle.domain_zone_answer.specs.AddressViews.{addresses_left}
-use Rattle.domain_zone_laws.specs.Zone.{RRset}
+use Rattle.domain_zone.specs.Zone.{RRset}
 use Rattle.domain_zone_signed.specs.SignedViews.{response_views, AddsAllSigned}
 use Rattle.domain_zone_signed.proofs.response.push_addresses.Given as goal
 

@@ -1,5 +1,5 @@
 use Rattle.std.proofs.Common.{refl, sym, ap, ◌∙◌, true≢false}
-use Rattle.domain_zone_laws.specs.Zone.{covered_type}
+use Rattle.domain_zone.specs.Zone.{covered_type}
 use Rattle.domain_zone_signed.proofs.CoveringTypes.{covered_here, covered_on, covered_none}
 use Rattle.domain_zone_signed.proofs.signatures.is_covered.Goals as goal
 

@@ -3,7 +3,7 @@ use Rattle.domain_list.specs.Ends.{EndsWith}
 use Rattle.domain_name.specs.Names.{name_labels}
 use Rattle.domain_zone.specs.Kept.{zone_view}
 use Rattle.domain_zone.specs.Records.{set_view}
-use Rattle.domain_zone_laws.specs.Zone.{Zone, RRSIG, HasType, IsAt, Exists, IsClosestEncloser}
+use Rattle.domain_zone.specs.Zone.{Zone, RRSIG, HasType, IsAt, Exists, IsClosestEncloser}
 use Rattle.domain_zone_signed.proofs.FindingSignatures.{none_outside, at_owner, at_source}
 use Rattle.domain_zone_signed.proofs.signatures.signatures_for.Goals as goal
 

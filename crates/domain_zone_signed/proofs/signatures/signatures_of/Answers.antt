@@ -2,7 +2,7 @@ use Rattle.std.proofs.Common.{true≢false, sym, ap, subst, ◌∙◌, map}
 use Rattle.domain_name.specs.Names.{name_labels}
 use Rattle.domain_zone.specs.Kept.{zone_view}
 use Rattle.domain_zone.specs.Records.{set_view}
-use Rattle.domain_zone_laws.specs.Zone.{IsZone}
+use Rattle.domain_zone.specs.Zone.{IsZone}
 use Rattle.domain_zone_signed.specs.Signing.{IsCovered}
 use Rattle.domain_zone_signed.proofs.OneSigned.{one_set}
 use Rattle.domain_zone_signed.proofs.FindingSignatures.{none_signs, not_signed, none_covers, some_signs}

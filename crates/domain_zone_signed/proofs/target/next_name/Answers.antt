@@ -1,6 +1,6 @@
 use Rattle.std.proofs.Common.{option_map, subst}
 use Rattle.domain_name.specs.Names.{name_labels}
-use Rattle.domain_zone_laws.specs.Zone.{IsZone}
+use Rattle.domain_zone.specs.Zone.{IsZone}
 use Rattle.domain_zone_signed.proofs.Leading.{of_name, has_target}
 use Rattle.domain_zone_signed.proofs.target.next_name.Goals as goal
 

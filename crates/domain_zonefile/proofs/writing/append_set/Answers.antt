@@ -3,7 +3,7 @@ use Rattle.domain_header.specs.Values.{class_number}
 use Rattle.domain_name.specs.Names.{name_labels}
 use Rattle.domain_zone.specs.Building.{Inserted}
 use Rattle.domain_zone.specs.Records.{set_view}
-use Rattle.domain_zone_laws.specs.Zone.{record_ttl}
+use Rattle.domain_zone.specs.Zone.{record_ttl}
 use Rattle.domain_zonefile.specs.Lines.{record_line, record_lines}
 use Rattle.domain_zonefile.proofs.Appending.{same_record, set_end, set_step}
 use Rattle.domain_zonefile.specs.Texts.{AppendsLine, IsLineOf}

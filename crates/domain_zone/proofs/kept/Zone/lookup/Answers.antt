@@ -1,7 +1,7 @@
 use Rattle.std.proofs.Common.{subst}
 use Rattle.domain_name.specs.Names.{name_labels}
 use Rattle.domain_zone.specs.Outcomes.{outcome_of}
-use Rattle.domain_zone_laws.specs.Answers.{Answers}
+use Rattle.domain_zone.specs.Answers.{Answers}
 use Rattle.domain_zone.proofs.kept.Zone.lookup.Goals as goal
 
 pub lookup_records-requires-clause-sorted : goal.lookup_records-requires-clause-sorted

@@ -5,8 +5,8 @@ use Rattle.domain_label.specs.Wire.{IsAbsoluteName}
 use Rattle.domain_list.proofs.AncestorLaws.{tells_apart}
 use Rattle.domain_name.specs.Names.{name_labels}
 use Rattle.domain_zone.proofs.Had.{canonical_had, cuts_had, zone_had}
-use Rattle.domain_zone_laws.specs.Views.{rrset, zone_of}
-use Rattle.domain_zone_laws.specs.Zone.{RRset}
+use Rattle.domain_zone.specs.Views.{rrset, zone_of}
+use Rattle.domain_zone.specs.Zone.{RRset}
 use Rattle.domain_zone.proofs.kept.Zone.records.Goals as goal
 
 pub returns-clause-zone : goal.returns-clause-zone

@@ -1,7 +1,7 @@
 use Rattle.std.proofs.Common.{MatchOption, subst}
 use Rattle.domain_zone.specs.Records.{set_view}
 use Rattle.domain_zone.proofs.kept.Zone.rrset.Goals as goal
-use Rattle.domain_zone_laws.specs.Zone.{Zone, HasType, IsAt}
+use Rattle.domain_zone.specs.Zone.{Zone, HasType, IsAt}
 
 pub returns : goal.returns
 returns g c =

@@ -3,7 +3,7 @@ use Rattle.domain_zone.specs.Kept.{OwnedBy}
 use Rattle.domain_zone.specs.Records.{records_view, set_view}
 use Rattle.domain_zone.proofs.Owned.{in_order, owned_part, part_viewed, small_types}
 use Rattle.domain_zone.proofs.kept.Zone.rrsets_at.Goals as goal
-use Rattle.domain_zone_laws.specs.Zone.{Zone}
+use Rattle.domain_zone.specs.Zone.{Zone}
 
 pub slice_bounds-result-count : goal.slice_bounds-result-count
 slice_bounds-result-count g c =

@@ -4,7 +4,7 @@ use Rattle.domain_name.specs.Names.{name_labels, relative_labels}
 use Rattle.domain_zone.specs.Missing.{IsMissing, IsSourceFor}
 use Rattle.domain_zone.specs.Records.{records_view}
 use Rattle.domain_zone.proofs.Neighbours.{exists_below, below_from}
-use Rattle.domain_zone_laws.specs.Zone.{Zone, Exists}
+use Rattle.domain_zone.specs.Zone.{Zone, Exists}
 use Rattle.domain_zone.proofs.kept.Zone.source_of_synthesis.Goals as goal
 
 pub returns-then-not-ends_with : goal.returns-then-not-ends_with

@@ -3,7 +3,7 @@ use Rattle.domain_name.specs.Names.{name_labels}
 use Rattle.domain_name.specs.Suffixes.{suffix_lists_left}
 use Rattle.domain_zone.proofs.Enclosing.{above_of, here, on, never_ends}
 use Rattle.domain_zone.proofs.Neighbours.{beside_from, exists_from}
-use Rattle.domain_zone_laws.specs.Views.{zone_of}
+use Rattle.domain_zone.specs.Views.{zone_of}
 use Rattle.domain_zone.proofs.lookup.encloser.closest_encloser.Goals as goal
 
 pub returns-then-is_beside : goal.returns-then-is_beside

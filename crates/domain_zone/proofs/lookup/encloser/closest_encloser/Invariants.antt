@@ -3,8 +3,8 @@ use Rattle.domain_flat.specs.Flat.{suffix_lists}
 use Rattle.domain_list.specs.Ends.{EndsWith}
 use Rattle.domain_name.specs.Names.{name_labels}
 use Rattle.domain_name.specs.Suffixes.{suffix_lists_left}
-use Rattle.domain_zone_laws.specs.Views.{zone_of}
-use Rattle.domain_zone_laws.specs.Zone.{Exists}
+use Rattle.domain_zone.specs.Views.{zone_of}
+use Rattle.domain_zone.specs.Zone.{Exists}
 use Rattle.domain_zone.proofs.lookup.encloser.closest_encloser.Given as goal
 
 -- what is left are the suffixes of an end of the name, and each name above it that exists is above that end

@@ -4,7 +4,7 @@ use Rattle.domain_name.specs.Names.{name_labels, relative_labels, Wildcard}
 use Rattle.domain_zone.proofs.Substituting.{joined}
 use Rattle.domain_zone.specs.Records.{records_view}
 use Rattle.domain_zone.proofs.Sources.{short_source}
-use Rattle.domain_zone_laws.specs.Zone.{source_of_synthesis}
+use Rattle.domain_zone.specs.Zone.{source_of_synthesis}
 use Rattle.domain_zone.proofs.lookup.encloser.source_at.Goals as goal
 
 pub unreachable-requires : goal.unreachable-requires

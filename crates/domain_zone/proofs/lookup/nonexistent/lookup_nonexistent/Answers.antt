@@ -7,11 +7,11 @@ use Rattle.domain_zone.specs.Outcomes.{outcome_of}
 use Rattle.domain_list.specs.Ends.{EndsWith}
 use Rattle.domain_zone.proofs.Near.{dname_last}
 use Rattle.domain_zone.proofs.Neighbours.{below_from, exists_below}
-use Rattle.domain_zone_laws.proofs.Ending.{ends_same, ends_after, ends_below}
-use Rattle.domain_zone_laws.proofs.Nodes.{exists_same}
-use Rattle.domain_zone_laws.specs.Answers.{Replies}
-use Rattle.domain_zone_laws.specs.Views.{reply_of, rrset, zone_of}
-use Rattle.domain_zone_laws.specs.Zone.{Exists, source_of_synthesis}
+use Rattle.domain_zone.proofs.Ending.{ends_same, ends_after, ends_below}
+use Rattle.domain_zone.proofs.Nodes.{exists_same}
+use Rattle.domain_zone.specs.Answers.{Replies}
+use Rattle.domain_zone.specs.Views.{reply_of, rrset, zone_of}
+use Rattle.domain_zone.specs.Zone.{Exists, source_of_synthesis}
 use Rattle.domain_zone.proofs.lookup.nonexistent.lookup_nonexistent.Goals as goal
 
 pub dname_above-requires-clause-last : goal.dname_above-requires-clause-last

@@ -3,9 +3,9 @@ use Rattle.domain_label.specs.Wire.{wire}
 use Rattle.domain_list.specs.Chains.{before_root}
 use Rattle.domain_name.specs.Names.{name_labels, relative_labels}
 use Rattle.domain_zone.proofs.Substituting.{stripped_front, whole_size, joined}
-use Rattle.domain_zone_laws.specs.Answers.{substitution}
-use Rattle.domain_zone_laws.specs.Views.{rrset}
-use Rattle.domain_zone_laws.specs.Zone.{target}
+use Rattle.domain_zone.specs.Answers.{substitution}
+use Rattle.domain_zone.specs.Views.{rrset}
+use Rattle.domain_zone.specs.Zone.{target}
 use Rattle.domain_zone.proofs.lookup.nonexistent.redirection.Goals as goal
 
 pub returns-in-Ok-new : goal.returns-in-Ok-new

@@ -5,9 +5,9 @@ use Rattle.domain_name.specs.Names.{name_labels}
 use Rattle.domain_zone.specs.Cuts.{TellsCut}
 use Rattle.domain_zone.proofs.Near.{none_there, none_over, one_over}
 use Rattle.domain_zone.proofs.Telling.{tells_own}
-use Rattle.domain_zone_laws.specs.Views.{rrset, zone_of}
-use Rattle.domain_zone_laws.specs.Zone.{RRset}
-use Rattle.domain_zone_laws.proofs.Places.{view_at}
+use Rattle.domain_zone.specs.Views.{rrset, zone_of}
+use Rattle.domain_zone.specs.Zone.{RRset}
+use Rattle.domain_zone.proofs.Places.{view_at}
 use Rattle.domain_zone.proofs.lookup.referral.first_cut.Goals as goal
 
 pub returns-in_default : goal.returns-in_default

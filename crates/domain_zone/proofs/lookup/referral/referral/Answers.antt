@@ -1,6 +1,6 @@
 use Rattle.domain_name.specs.Names.{name_labels}
 use Rattle.domain_zone.proofs.Leading.{no_referral_at_cut}
-use Rattle.domain_zone_laws.specs.Views.{zone_of}
+use Rattle.domain_zone.specs.Views.{zone_of}
 use Rattle.domain_zone.proofs.lookup.referral.referral.Goals as goal
 
 pub returns-then-eq_names : goal.returns-then-eq_names

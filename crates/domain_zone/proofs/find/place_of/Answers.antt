@@ -1,0 +1,45 @@
+use Rattle.std.proofs.Common.{◌≡◌, ◌+◌, ◌-◌, ◌/◌, ◌<◌, length, map, get_or, ap, ◌∙◌, sym, subst, arith, true≢false}
+use Rattle.std.proofs.lemmas.List.{length-map}
+use Rattle.domain_zone.specs.Sorted.{ComesBefore}
+use Rattle.domain_zone.specs.Views.{rrset, zone_of}
+use Rattle.domain_zone.proofs.Places.{with_middle, from_middle, view_at}
+use Rattle.domain_zone.proofs.find.place_of.Goals as goal
+
+pub halves-preserved-then-comes_before : goal.halves-preserved-then-comes_before
+halves-preserved-then-comes_before g c =
+    let xs = c.args.zone.now.sets.items in
+    let labels = g.N.NameLabels.labels in
+    let name = g.M.NameLabels.labels c.args.name.now in
+    let m = c.halves.low + (c.halves.high - c.halves.low) / 2 in
+    let s = c.index-sets-middle.result in
+    let size : length (map (rrset labels) xs) ≡ length xs = length-map xs (rrset labels) in
+    let within : m < length (map (rrset labels) xs) = omega (arith, c.halves-test.true, c.halves.invariant.within) in
+    let short : m < length xs = omega (arith, within, size) in
+    let is : s ≡ get_or xs m s = c.index-sets-middle.is ∙ ap (λ l. get_or l m s) c.as_slice-sets.ensures.value in
+    let before : ComesBefore (rrset labels s) name c.args.rtype = c.comes_before.ensures.0 c.if-comes_before.true in
+    record {
+      order = omega (arith, c.halves-test.true);
+      within = c.halves.invariant.within;
+      before = with_middle (zone_of labels c.args.zone.now) c.requires name c.args.rtype m within
+          (λ d. subst (λ r. ComesBefore r name c.args.rtype) (sym (view_at (rrset labels) xs m s short is d)) before);
+      after = c.halves.invariant.after;
+    }
+
+pub halves-preserved : goal.halves-preserved
+halves-preserved g c =
+    let xs = c.args.zone.now.sets.items in
+    let labels = g.N.NameLabels.labels in
+    let name = g.M.NameLabels.labels c.args.name.now in
+    let m = c.halves.low + (c.halves.high - c.halves.low) / 2 in
+    let s = c.index-sets-middle.result in
+    let size : length (map (rrset labels) xs) ≡ length xs = length-map xs (rrset labels) in
+    let within : m < length (map (rrset labels) xs) = omega (arith, c.halves-test.true, c.halves.invariant.within) in
+    let short : m < length xs = omega (arith, within, size) in
+    let is : s ≡ get_or xs m s = c.index-sets-middle.is ∙ ap (λ l. get_or l m s) c.as_slice-sets.ensures.value in
+    record {
+      order = omega arith;
+      within = omega (arith, within);
+      before = c.halves.invariant.before;
+      after = from_middle (zone_of labels c.args.zone.now) c.requires name c.args.rtype m
+          (λ d b. true≢false (sym (c.comes_before.ensures.1 (subst (λ r. ComesBefore r name c.args.rtype) (view_at (rrset labels) xs m s short is d) b)) ∙ c.if-comes_before.false));
+    }

@@ -1,6 +1,0 @@
-use Rattle.domain_zone_laws.proofs.Total.{has_one}
-use Rattle.domain_zone_laws.proofs.Underneath.{underneath}
-use Rattle.domain_zone_laws.proofs.laws.answer_laws.Goals as goal
-
-pub returns : goal.returns
-returns c = record { one = has_one; below = underneath }

@@ -1,5 +1,0 @@
-use Rattle.domain_zone_laws.proofs.Evaluating.{rfc1034_rows}
-use Rattle.domain_zone_laws.proofs.laws.rfc1034_rows.Goals as goal
-
-pub returns : goal.returns
-returns c = rfc1034_rows

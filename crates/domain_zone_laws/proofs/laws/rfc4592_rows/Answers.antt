@@ -1,5 +1,0 @@
-use Rattle.domain_zone_laws.proofs.Evaluating.{rfc4592_rows}
-use Rattle.domain_zone_laws.proofs.laws.rfc4592_rows.Goals as goal
-
-pub returns : goal.returns
-returns c = rfc4592_rows

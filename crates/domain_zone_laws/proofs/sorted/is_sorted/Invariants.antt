@@ -1,7 +1,0 @@
-use Rattle.domain_zone_laws.specs.Sorted.{IsSortedUpTo}
-use Rattle.domain_zone_laws.specs.Views.{zone_of}
-use Rattle.domain_zone_laws.proofs.sorted.is_sorted.Given as goal
-
--- those so far are in order
-abbrev pub invariant-loop-i : goal.invariant-loop-i
-invariant-loop-i g l = IsSortedUpTo (zone_of g.N.NameLabels.labels l.zone) l.i
