@@ -2,8 +2,8 @@
 
 use conformance_labels::Answer;
 use domain_list::DisplayWithDot;
-use domain_zone::{Answer as Outcome, Owner};
 use domain_zone::reply::Reply;
+use domain_zone::{Answer as Outcome, Owner};
 
 /// Appends a word, and a name with its final dot.
 pub fn put_name(out: &Answer, word: &[u8], name: &Owner) {

@@ -3,8 +3,8 @@
 use crate::records::question_of;
 use crate::zones::{put_rrset, zone_of};
 use conformance_labels::{Answer, Fields, is};
-use domain_zone::{Owner, Zone};
 use domain_zone::zone::Rrset;
+use domain_zone::{Owner, Zone};
 use domain_zone_signed::{Denial, denial_for};
 
 /// `denial APEX RECORDS QUESTIONS`: what shows that names and types aren't there.

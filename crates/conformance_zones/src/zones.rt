@@ -4,10 +4,10 @@ use crate::answers::{put_name, put_outcome};
 use crate::records::{builder_of, finish, insert, question_of};
 use crate::sections::{RRSIG, put_sections};
 use conformance_labels::{Answer, Fields, is};
-use domain_zone::{InsertError, Owner, Zone, ZoneBuilder};
-use domain_zone_answer::respond;
 use domain_zone::ttl::record_ttl;
 use domain_zone::zone::Rrset;
+use domain_zone::{InsertError, Owner, Zone, ZoneBuilder};
+use domain_zone_answer::respond;
 
 /// `zone APEX RECORDS QUESTIONS`: what a zone has, and what it answers.
 pub fn put_zone(out: &Answer, line: &[u8]) {

@@ -4,8 +4,7 @@ ghost use Rattle.dnsnames_zone_c.specs.Numbers.{data_number, entry_number, error
 
 use domain_rdata_text::{Place, Reason};
 use domain_zone::{InsertError, RrsetFault, ZoneFault};
-use domain_zonefile::LoadError;
-use domain_zonefile::EntryReason;
+use domain_zonefile::{EntryReason, LoadError};
 
 /// Where an error is: line and column, counted from 1, or 0; and the index of an RRset, or 0.
 #[derive(Clone, Copy)]

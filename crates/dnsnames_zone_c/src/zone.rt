@@ -14,8 +14,8 @@ use domain_compress::CompressComposer;
 use domain_header::Class;
 use domain_name::Name;
 use domain_zone::{Owner, Zone};
-use domain_zonefile::{LoadError, load};
 use domain_zone_response::{Server, Transport, respond_to};
+use domain_zonefile::{LoadError, load};
 use octseq::Octets;
 use std::alloc::{AllocError, Global};
 

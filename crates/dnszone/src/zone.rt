@@ -5,8 +5,9 @@ use domain_header::Class;
 use domain_name::Name;
 use domain_rdata_text::{Place, place_of};
 use domain_zone::{Owner, Zone};
-use domain_zonefile::{LoadError, load};
-use domain_zonefile::{Context, Directive, Entry, Record, ZoneReader, ZoneTextError};
+use domain_zonefile::{
+    Context, Directive, Entry, LoadError, Record, ZoneReader, ZoneTextError, load,
+};
 use std::alloc::{AllocError, Global};
 use std::fmt;
 

@@ -10,9 +10,9 @@ ghost use Rattle.domain_zone.specs.Zone.{IsDataType, IsOneName, CNAME, DNAME, NS
 
 use crate::fault::RrsetFault;
 use crate::names::Owner;
+use crate::zone::{Rrset, ZoneRecords};
 use domain_list::comparing::eq_names;
 use domain_name::{Name, RelativeName};
-use crate::zone::{Rrset, ZoneRecords};
 use std::cmp::Ordering;
 
 /// Whether a type is one of data that a zone can have.

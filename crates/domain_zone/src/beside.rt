@@ -8,12 +8,12 @@ ghost use Rattle.domain_zone.specs.Sorted.{IsSorted};
 ghost use Rattle.domain_zone.specs.Zone.{HasType, IsCut, MayBeBesideCname};
 
 use crate::fault::RrsetFault;
+use crate::find::{find_at, place_of};
 use crate::names::Owner;
+use crate::zone::{Rrset, ZoneRecords};
 use domain_list::comparing::eq_names;
 use domain_list::ends::ends_with_labels;
 use domain_list::laws::order_laws;
-use crate::find::{find_at, place_of};
-use crate::zone::{Rrset, ZoneRecords};
 
 /// Whether records of a type may be beside a CNAME.
 fn may_be_beside_cname(rtype: u16) -> bool

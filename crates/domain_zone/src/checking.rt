@@ -10,9 +10,9 @@ use crate::alone::fault_alone;
 use crate::beside::{fault_beside, has_type};
 use crate::fault::ZoneFault;
 use crate::names::Owner;
-use domain_list::laws::order_laws;
 use crate::sorted::is_sorted;
 use crate::zone::ZoneRecords;
+use domain_list::laws::order_laws;
 
 /// A fault of an RRset that can't be in the zone, whatever the others are.
 fn first_fault_alone(records: &ZoneRecords<Owner>) -> Option<ZoneFault>

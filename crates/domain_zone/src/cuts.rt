@@ -9,11 +9,11 @@ ghost use Rattle.domain_zone.specs.Zone.{RRset, IsZone};
 
 use crate::merging::is_taken;
 use crate::names::Owner;
+use crate::zone::ZoneRecords;
 use domain_list::ToLabelIter;
 use domain_list::comparing::eq_names;
 use domain_list::ends::ends_with_labels;
 use domain_list::laws::order_laws;
-use crate::zone::ZoneRecords;
 
 /// Whether the RRset at an index is at or above a name.
 pub(crate) fn is_above_at<'a, M: ToLabelIter<'a>>(

@@ -7,12 +7,12 @@ ghost use Rattle.domain_zone.specs.Zone.{IsZone};
 use crate::checking::find_fault;
 use crate::cuts::with_cuts;
 use crate::fault::ZoneFault;
+use crate::find::{find_at, place_of};
 use crate::names::Owner;
+use crate::zone::{Rrset, ZoneRecords};
 use domain_header::Class;
 use domain_list::ToLabelIter;
 use domain_list::laws::order_laws;
-use crate::find::{find_at, place_of};
-use crate::zone::{Rrset, ZoneRecords};
 
 /// A zone: an apex and the RRsets at and below it, in canonical order (RFC 1034, 4.2.1; RFC 4034, 6.1).
 ///

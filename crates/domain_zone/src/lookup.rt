@@ -16,15 +16,15 @@ mod nonexistent;
 mod outcome;
 mod referral;
 
+use crate::find::place_of;
 use crate::kept::Zone;
 use crate::lookup::encloser::{is_below_at, source_at};
 use crate::lookup::nonexistent::lookup_nonexistent;
 use crate::names::Owner;
-use domain_list::laws::order_laws;
-use domain_name::Name;
-use crate::find::place_of;
 use crate::reply::reply_from;
 use crate::zone::ZoneRecords;
+use domain_list::laws::order_laws;
+use domain_name::Name;
 pub use encloser::{Wildcard, source_of_synthesis};
 pub use outcome::{Answer, Substitution};
 

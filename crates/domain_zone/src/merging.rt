@@ -10,12 +10,12 @@ ghost use Rattle.domain_zone.specs.Records.{records_view, set_view};
 ghost use Rattle.domain_zone.specs.Zone.{RRset};
 
 use crate::entry::Entry;
-use crate::names::Owner;
-use domain_list::comparing::{eq_names, order_names};
-use domain_list::laws::order_laws;
 use crate::find::place_of;
+use crate::names::Owner;
 use crate::ttl::covered_type;
 use crate::zone::{Rrset, SignatureTtl, ZoneRecords};
+use domain_list::comparing::{eq_names, order_names};
+use domain_list::laws::order_laws;
 use std::alloc::{AllocError, Global};
 use std::cmp::Ordering;
 

@@ -8,9 +8,9 @@ ghost use Rattle.domain_zone_answer.specs.Sets.{set_list};
 use crate::section::SectionRrset;
 use domain_list::laws::order_laws;
 use domain_name::Name;
-use domain_zone::{Owner, Zone};
 use domain_zone::find::find_at;
 use domain_zone::zone::Rrset;
+use domain_zone::{Owner, Zone};
 
 /// The RRset of a type that the zone has at the name whose wire format the octets are.
 fn address<'a>(zone: &'a Zone, octets: &[u8], rtype: u16) -> Option<&'a Rrset<Owner>>

@@ -13,9 +13,9 @@ ghost use Rattle.domain_zone_answer.specs.Views.{section_list};
 use crate::encloser::{first_of_wildcard, first_rrset};
 use crate::section::SectionRrset;
 use domain_name::Name;
-use domain_zone::{Answer, Owner};
 use domain_zone::reply::Reply;
 use domain_zone::zone::ZoneRecords;
+use domain_zone::{Answer, Owner};
 
 /// The RRset of the answer section for what is found at a name that exists.
 fn answer_found<'a>(

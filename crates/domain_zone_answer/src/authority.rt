@@ -10,9 +10,9 @@ ghost use Rattle.domain_zone.specs.Zone.{IsZone};
 
 use crate::section::SectionRrset;
 use crate::soa::negative_soa;
-use domain_zone::{Answer, Owner};
 use domain_zone::reply::Reply;
 use domain_zone::zone::ZoneRecords;
+use domain_zone::{Answer, Owner};
 
 /// The RRset of the authority section for what is found at a name.
 fn denial<'a>(records: &'a ZoneRecords<Owner>, reply: &Reply<'a, Owner>) -> Option<SectionRrset<'a>>

@@ -10,9 +10,9 @@ ghost use Rattle.domain_zone.specs.Zone.{source_of_synthesis};
 use domain_list::ToLabelIter;
 use domain_list::laws::order_laws;
 use domain_name::Name;
-use domain_zone::{Owner, source_of_synthesis};
 use domain_zone::find::place_of;
 use domain_zone::zone::{Rrset, ZoneRecords};
+use domain_zone::{Owner, source_of_synthesis};
 
 /// The RRset of the lowest type that a name owns.
 pub(crate) fn first_rrset<'z: 'a, 'a, M: ToLabelIter<'a>>(

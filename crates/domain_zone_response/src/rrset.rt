@@ -16,8 +16,8 @@ use domain_message::{Record, Section};
 use domain_message_builder::MessageBuilder;
 use domain_name::Name;
 use domain_rdata::{Composer, Rtype, UnknownRecordData};
-use domain_zone_answer::{SectionRrset, SynthesizedCname};
 use domain_zone::ttl::covered_type;
+use domain_zone_answer::{SectionRrset, SynthesizedCname};
 use domain_zone_signed::Signatures;
 
 /// What a record has before its data.

@@ -12,9 +12,9 @@ use crate::answer::AnswerRrset;
 use domain_header::Rcode;
 use domain_list::comparing::same_names;
 use domain_name::Name;
+use domain_zone::laws::answer_laws;
 use domain_zone::{Answer, Zone};
 use domain_zone_answer::{AddressIter, Response, SectionRrset, respond};
-use domain_zone::laws::answer_laws;
 use std::alloc::{AllocError, Global};
 
 /// What a response has that follows the chain of a question: all answers, and the rest of the last question.

@@ -15,9 +15,9 @@ ghost use Rattle.domain_zone_signed.specs.DenialViews.{denial_list};
 use crate::nsec::nsec_for;
 use domain_list::comparing::eq_names;
 use domain_name::Name;
-use domain_zone::{Answer, Owner, Zone, source_of_synthesis};
 use domain_zone::reply::Reply;
 use domain_zone::zone::Rrset;
+use domain_zone::{Answer, Owner, Zone, source_of_synthesis};
 
 /// The RRsets that show what a zone doesn't have: at most two.
 #[derive(Clone, Copy)]

@@ -13,9 +13,9 @@ use crate::chain::push_new;
 use crate::denial::denial_for;
 use crate::questions::Questions;
 use domain_name::Name;
+use domain_zone::zone::Rrset;
 use domain_zone::{Owner, Zone};
 use domain_zone_answer::SectionRrset;
-use domain_zone::zone::Rrset;
 use std::alloc::{AllocError, Global};
 
 /// Pushes an RRset of the zone, if there is one, unless it is there.

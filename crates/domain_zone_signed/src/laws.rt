@@ -5,8 +5,8 @@ ghost use Rattle.domain_zone_signed.specs.DenialLaws.{HasOneDenial, IsOfZone, Co
 ghost use Rattle.domain_zone_signed.specs.DenialLaws.{CoversByFields, ShownIsSo, DenialConvinces};
 ghost use Rattle.domain_zone_signed.specs.SignedLaws.{HasOneSignedResponse, IsPlainWithout};
 
-use domain_zone_answer::response_laws;
 use domain_zone::laws::answer_laws;
+use domain_zone_answer::response_laws;
 
 /// Each question to a zone starts exactly one chain, and the response that follows it is determined.
 pub fn chain_laws()

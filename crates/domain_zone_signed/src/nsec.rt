@@ -9,9 +9,9 @@ ghost use Rattle.domain_zone_signed.specs.Denial.{IsNsecFor};
 ghost use Rattle.domain_zone_signed.specs.Cuts.{IsCutOrSelf};
 
 use domain_list::ToLabelIter;
-use domain_zone::{Answer, Owner, Zone};
 use domain_zone::find::place_of;
 use domain_zone::zone::Rrset;
+use domain_zone::{Answer, Owner, Zone};
 
 /// The NSEC RRset at the first cut on the way to a name in the zone, or at the name where no cut is on the way.
 fn nsec_at_cut_or_self<'z>(zone: &'z Zone, owner: &Owner) -> Option<&'z Rrset<Owner>>

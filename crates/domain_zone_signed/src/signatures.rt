@@ -8,10 +8,10 @@ ghost use Rattle.domain_zone_signed.specs.Signing.{IsSignatureSet, IsCovered, Ar
 ghost use Rattle.domain_zone_signed.specs.SignedViews.{signature_list};
 
 use domain_name::Name;
-use domain_zone::{Owner, Zone, source_of_synthesis};
 use domain_zone::reply::exists;
 use domain_zone::ttl::covered_type;
 use domain_zone::zone::Rrset;
+use domain_zone::{Owner, Zone, source_of_synthesis};
 
 /// The RRSIG records in a section that cover an RRset (RFC 4035, 3.1.1).
 ///

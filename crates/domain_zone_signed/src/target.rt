@@ -12,9 +12,9 @@ ghost use Rattle.domain_zone.specs.Zone.{IsOneName, target};
 use domain_list::AbsoluteLabels;
 use domain_name::Name;
 use domain_traits::ToName;
-use domain_zone::{Answer, Owner, Zone};
 use domain_zone::reply::Reply;
 use domain_zone::zone::Rrset;
+use domain_zone::{Answer, Owner, Zone};
 use std::alloc::{AllocError, Global};
 
 /// Returns the target of a CNAME.

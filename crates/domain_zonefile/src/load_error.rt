@@ -1,8 +1,8 @@
 //! Why a text is that of no zone.
 
+use crate::EntryReason;
 use domain_rdata_text::Place;
 use domain_zone::{InsertError, ZoneFault};
-use crate::EntryReason;
 
 /// Why a text is that of no zone.
 #[derive(Clone, Copy, Debug, PartialEq, Eq)]

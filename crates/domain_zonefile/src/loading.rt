@@ -10,10 +10,10 @@ ghost use Rattle.domain_zonefile.specs.Loads.{IsNoZone, IsZoneOf, place_of_rest,
 
 use crate::load_error::LoadError;
 use crate::taking::{Refusal, take_entry};
+use crate::{Context, EntryAndRest, EntryError, fault_place, names_law, read_entry};
 use domain_header::Class;
 use domain_rdata_text::place_of;
 use domain_zone::{BuildError, InsertError, Owner, Zone, ZoneBuilder};
-use crate::{Context, EntryAndRest, EntryError, fault_place, names_law, read_entry};
 use std::alloc::{AllocError, Global};
 
 /// Returns what the first entry of a text takes where it leaves something out: the apex as the origin, and the class.

@@ -15,9 +15,9 @@ ghost use Rattle.domain_zonefile.specs.Texts.{set_records};
 use crate::record::{Front, append_after_owner, append_name, are_octets};
 use domain_header::Class;
 use domain_name::{Name, RelativeName};
-use domain_zone::{Owner, Zone};
 use domain_zone::ttl::record_ttl;
 use domain_zone::zone::Rrset;
+use domain_zone::{Owner, Zone};
 use std::alloc::{AllocError, Global};
 
 /// Returns the labels of a name before those of the apex, if it ends with them as they are spelled there.

@@ -7,10 +7,10 @@ ghost use Rattle.domain_zonefile.specs.Directives.{directive_view};
 ghost use Rattle.domain_zonefile.specs.Reading.{entry_view, SaysNames};
 ghost use Rattle.domain_zonefile.specs.Takings.{IsInclude, IsTaken, record_view, records_of_entry, RefusedBy};
 
+use crate::{Directive, Entry, Record};
 use domain_header::Class;
 use domain_name::Name;
 use domain_zone::{InsertError, ZoneBuilder};
-use crate::{Directive, Entry, Record};
 
 /// Why a builder doesn't take an entry.
 #[derive(Clone, Copy, Debug, PartialEq, Eq)]

@@ -1,9 +1,8 @@
 //! Zones are written, and loaded again.
-use crate::{write_relative_zone, write_zone};
+use crate::{load, write_relative_zone, write_zone};
 use domain_header::Class;
 use domain_name::Name;
 use domain_zone::{Owner, Zone};
-use crate::load;
 use std::alloc::Global;
 use std::process::Abort;
 

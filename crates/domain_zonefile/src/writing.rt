@@ -7,9 +7,9 @@ ghost use Rattle.domain_zonefile.specs.Texts.{AppendsLines, IsZoneText, set_reco
 
 use crate::record::{Front, append_record};
 use domain_header::Class;
-use domain_zone::{Owner, Zone};
 use domain_zone::ttl::record_ttl;
 use domain_zone::zone::Rrset;
+use domain_zone::{Owner, Zone};
 use std::alloc::{AllocError, Global};
 
 /// Appends the lines of an RRset's records.

@@ -10,13 +10,13 @@ ghost use Rattle.domain_zone.specs.Sorted.{IsSorted, IsPlace};
 ghost use Rattle.domain_zone.specs.Zone.{RRset, IsZone, Exists, IsClosestEncloser};
 ghost use Rattle.domain_zone.specs.Zone.{source_of_synthesis};
 
+use crate::find::place_of;
 use crate::names::Owner;
+use crate::zone::ZoneRecords;
 use domain_list::ends::ends_with_labels;
 use domain_list::laws::order_laws;
 use domain_list::{Chain, ToLabelIter};
 use domain_name::{Name, RelativeName, SuffixIter};
-use crate::find::place_of;
-use crate::zone::ZoneRecords;
 
 /// Whether the RRset at an index is at or below a name.
 pub(crate) fn is_below_at<'a, M: ToLabelIter<'a>>(

@@ -9,16 +9,16 @@ ghost use Rattle.domain_zone.specs.Sorted.{IsSorted, IsPlace, IsLastBefore};
 ghost use Rattle.domain_zone.specs.Zone.{IsZone, Exists, HasType, IsAt};
 ghost use Rattle.domain_zone.specs.Zone.{IsOneName, target, DNAME};
 
+use crate::find::place_of;
 use crate::lookup::encloser::{closest_encloser, is_below_at};
 use crate::lookup::outcome::Answer;
 use crate::names::Owner;
-use domain_list::Chain;
-use domain_list::laws::order_laws;
-use domain_name::{Name, RelativeName};
-use crate::find::place_of;
 use crate::reading::find_before;
 use crate::reply::reply_from;
 use crate::zone::{Rrset, ZoneRecords};
+use domain_list::Chain;
+use domain_list::laws::order_laws;
+use domain_name::{Name, RelativeName};
 
 /// Where a CNAME or a DNAME leads.
 fn target_of<'a>(alias: &'a Rrset<Owner>) -> Name<&'a [u8]>

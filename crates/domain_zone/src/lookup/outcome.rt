@@ -5,11 +5,11 @@ ghost use Rattle.domain_zone.specs.Headers.{HasAuthority, response_code};
 ghost use Rattle.domain_zone.specs.Outcomes.{outcome_of};
 
 use crate::names::Owner;
+use crate::reply::Reply;
+use crate::zone::Rrset;
 use domain_header::Rcode;
 use domain_list::Chain;
 use domain_name::{Name, RelativeName};
-use crate::reply::Reply;
-use crate::zone::Rrset;
 
 /// The labels of a name before those of a DNAME's owner, and then the DNAME's target (RFC 6672, 2.2).
 pub type Substitution<'a> = Chain<RelativeName<&'a [u8]>, Name<&'a [u8]>>;

@@ -7,10 +7,10 @@ ghost use Rattle.domain_zone.specs.Answers.{IsReferred};
 ghost use Rattle.domain_zone.specs.Zone.{RRset, IsAt, HasNoCut, IsFirstCut, NS};
 
 use crate::names::Owner;
+use crate::zone::{Rrset, ZoneRecords};
 use domain_list::comparing::eq_names;
 use domain_list::ends::ends_with_labels;
 use domain_name::Name;
-use crate::zone::{Rrset, ZoneRecords};
 
 /// The name servers of the first cut on the way to a name.
 ///
