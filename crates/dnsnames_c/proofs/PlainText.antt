@@ -6,7 +6,8 @@ use Rattle.domain_list.specs.Dotted.{dotted}
 use Rattle.domain_list.proofs.DottedText.{step_dots}
 use Rattle.domain_flat.specs.Flat.{HasFirst}
 
--- In the octets, which begin with the name, dots are put up to the offset at, and the wire format rest is from there on.
+-- In the octets, which begin with the name, dots are put up to the offset at, and the wire format rest is from there
+-- on.
 pub record Dotting (name rest octets : List ℕ) (at count : ℕ) : Type 0 where
   pub flat : IsWire rest
   pub size : at + length (wire (labels_in rest)) ≡ length (wire (labels_in name))

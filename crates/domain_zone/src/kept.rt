@@ -16,8 +16,8 @@ use domain_list::laws::order_laws;
 
 /// A zone: an apex and the RRsets at and below it, in canonical order (RFC 1034, 4.2.1; RFC 4034, 6.1).
 ///
-/// That the records are a zone is tested once, when it is made, and so is where it is cut. So what reads it has nothing
-/// to ask for.
+/// That the records are a zone is tested once, when it is made, and so is where it is cut. So what reads it asks for
+/// nothing.
 #[derive(Drop)]
 pub struct Zone {
     class: Class,

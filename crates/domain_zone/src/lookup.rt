@@ -78,8 +78,8 @@ impl Zone {
 
     /// Returns the source of synthesis for a name: an asterisk label before its closest encloser (RFC 4592, 3.3.1).
     ///
-    /// It is `None` exactly where the name isn't in the zone or exists. The wildcard may have no records, and it may not
-    /// exist.
+    /// It is `None` exactly where the name isn't in the zone or exists. The wildcard may have no records, and it may
+    /// not exist.
     pub fn source_of_synthesis<'q>(&self, name: Name<&'q [u8]>) -> Option<Wildcard<'q>>
         ensures { MatchOption result
             (IsMissing (zone_view self.now) (name_labels name.entry) → ⊥)

@@ -51,8 +51,8 @@ abbrev pub IsZoneText : ℕ → Zone → List ℕ → Type 0
 IsZoneText class z text =
     (ws : List Written) × AllZip (IsLineOf class) (zone_records z) ws × (text ≡ record_lines ws)
 
--- What the line of this record has after its owner was appended: TTL, class, type and data with a space before each, and
--- the end of the line. Its octets are in their range.
+-- What the line of this record has after its owner was appended: TTL, class, type and data with a space before each,
+-- and the end of the line. Its octets are in their range.
 abbrev pub AppendsAfterOwner : ℕ → Inserted → List ℕ → List ℕ → Type 0
 AppendsAfterOwner class r old new = (vs : List Val) × HoldsData r.rtype class r.octets vs × AreOctets r.octets
     × AppendedTo old (spaced (decimal r.ttl ∷ class_text class ∷ type_text r.rtype ∷ data_words vs) ++ 10 ∷ []) new

@@ -164,8 +164,8 @@ fn append_relative_set(
 }
 
 /// Returns the text of a zone with owners relative to its apex (RFC 1035, 5.1): the line `$ORIGIN` with the apex, and
-/// then a line for each record, in the order of [`write_zone`](crate::write_zone). The apex is `@`. An owner whose last
-/// labels aren't spelled as those of the apex is absolute, and so are names in data.
+/// then a line for each record, in the order of [`write_zone`](crate::write_zone). The apex is `@`. An owner whose
+/// last labels aren't spelled as those of the apex is absolute, and so are names in data.
 ///
 /// # Errors
 ///
