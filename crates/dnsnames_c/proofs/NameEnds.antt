@@ -39,9 +39,9 @@ pub ends_longer : (o p : List ℕ) → IsAbsoluteWire o → IsAbsoluteWire p →
 ends_longer o p n m few = (λ t. absurd (true≢false (sym t)), λ t. absurd (omega (arith, few, (place o p n m t).4)))
 
 pub ends_inside : (o p : List ℕ) (at : ℕ) → IsAbsoluteWire o → IsAbsoluteWire p → at + length p ≡ length o → (IsTrue false ↔ IsLabelEnd (labels_in o) at) → IsTrue false ↔ EndsInName o p
-ends_inside o p at n m size no = (
+ends_inside o p at n m size never = (
   λ t. absurd (true≢false (sym t)),
-  λ t. let r = place o p n m t in no.1 (r.0, r.1, record { parts = r.2; offset = omega (arith, r.4, size) }),
+  λ t. let r = place o p n m t in never.1 (r.0, r.1, record { parts = r.2; offset = omega (arith, r.4, size) }),
 )
 
 pub ends_there : (o p : List ℕ) (at : ℕ) (told : Bool) → IsAbsoluteWire o → IsAbsoluteWire p → at + length p ≡ length o → IsLabelEnd (labels_in o) at → (IsTrue told ↔ (lowercase (drop at o) ≡ lowercase p)) → IsTrue told ↔ EndsInName o p
