@@ -315,19 +315,24 @@ fn zone_hashes() -> [[u8; 20]; 12] {
     ]
 }
 
-/// A record with these hashes.
-fn hashed<'m>(owner: [u8; 20], next: &'m [u8; 20]) -> HashedRecord<'m> {
+/// A record with these hashes and this salt.
+fn hashed_with<'m>(owner: [u8; 20], next: &'m [u8; 20], salt: &'m [u8]) -> HashedRecord<'m> {
     HashedRecord {
         owner,
         data: Nsec3 {
             algorithm: 1,
             flags: 1,
             iterations: 12,
-            salt: b"\xaa\xbb\xcc\xdd",
+            salt,
             next: next.as_slice(),
             types: b"",
         },
     }
+}
+
+/// A record with these hashes.
+fn hashed<'m>(owner: [u8; 20], next: &'m [u8; 20]) -> HashedRecord<'m> {
+    hashed_with(owner, next, b"\xaa\xbb\xcc\xdd")
 }
 
 /// The zone's records (RFC 5155, A).
@@ -472,10 +477,11 @@ fn searching(rt: HostRuntime) {
     let Some(chain) = Nsec3Chain::new(&records) else {
         return assert!(rt; false);
     };
+    let owners = zone_hashes();
     for i in 0..12 {
-        assert_eq!(rt; chain.matching(&hashes[i]), Some(i));
-        assert_eq!(rt; chain.covering(&hashes[i]), None);
-        let mut after = hashes[i];
+        assert_eq!(rt; chain.matching(&owners[i]), Some(i));
+        assert_eq!(rt; chain.covering(&owners[i]), None);
+        let mut after = owners[i];
         after[19] = after[19] ^ 1;
         assert_eq!(rt; chain.matching(&after), None);
     }
@@ -508,9 +514,8 @@ fn chains(rt: HostRuntime) {
     let mut other = two;
     other[1].data.iterations = 11;
     assert!(rt; !is_chain(&other));
-    let mut other = two;
-    other[1].data.salt = b"\xaa\xbb\xcc";
-    assert!(rt; !is_chain(&other));
+    let salted = hashed_with(hashes[1], &hashes[0], b"\xaa\xbb\xcc");
+    assert!(rt; !is_chain(&[two[0], salted]));
     let mut other = two;
     other[1].data.algorithm = 2;
     assert!(rt; !is_chain(&other));
