@@ -1,4 +1,6 @@
+pub mod ByTable
 pub mod Composed
+pub mod FieldValues
 pub mod Fitting
 pub mod Laws
 pub mod Members

@@ -1,4 +1,5 @@
 //! Addresses of hosts.
+ghost use Rattle.domain_data_laws.specs.ByTable.{FollowsTable};
 ghost use Rattle.domain_data_laws.specs.Fitting.{HasNoNumber};
 ghost use Rattle.domain_data_laws.specs.Laws.{SeesWhatIsRead, LikeMeansSame, IsReadAs};
 ghost use Rattle.domain_data_laws.specs.SameData.{SameIpv4, SameIpv6};
@@ -15,6 +16,8 @@ pub fn a_laws<'a>()
         ⟦<A as ParseRecordData<'a>>⟧.model SameIpv4 }
     ensures read { IsReadAs ⟦<A as ComposeRecordData>⟧
         ⟦<A as ParseRecordData<'a>>⟧ HasNoNumber SameIpv4 }
+    ensures table { FollowsTable 1 ⟦<A as ComposeRecordData>⟧
+        ⟦<A as ParseRecordData<'a>>⟧.encodes HasNoNumber }
 {}
 
 /// AAAA: an address is read as the same address (RFC 3596, 2.2).
@@ -25,4 +28,6 @@ pub fn aaaa_laws<'a>()
         ⟦<Aaaa as ParseRecordData<'a>>⟧.model SameIpv6 }
     ensures read { IsReadAs ⟦<Aaaa as ComposeRecordData>⟧
         ⟦<Aaaa as ParseRecordData<'a>>⟧ HasNoNumber SameIpv6 }
+    ensures table { FollowsTable 28 ⟦<Aaaa as ComposeRecordData>⟧
+        ⟦<Aaaa as ParseRecordData<'a>>⟧.encodes HasNoNumber }
 {}

@@ -1,4 +1,5 @@
 //! Data with names in it.
+ghost use Rattle.domain_data_laws.specs.ByTable.{FollowsTable};
 ghost use Rattle.domain_data_laws.specs.Fitting.{HasNoNumber, FitsNumber, FitsSrv, FitsSoa};
 ghost use Rattle.domain_data_laws.specs.Laws.{SeesWhatIsRead, LikeMeansSame, IsReadAs};
 ghost use Rattle.domain_data_laws.specs.SameData.{IgnoringCase, WithCase, SameName, SameWholeName, SameMx, SameSrv, SameSoa};
@@ -30,6 +31,8 @@ pub fn cname_laws<'a, N: DataName>()
     ensures read { IsReadAs ⟦<Cname<N> as ComposeRecordData>⟧
         ⟦<Cname<ReadName<'a>> as ParseRecordData<'a>>⟧
         HasNoNumber (SameName IgnoringCase N.labels) }
+    ensures table { FollowsTable 5 ⟦<Cname<N> as ComposeRecordData>⟧
+        ⟦<Cname<ReadName<'a>> as ParseRecordData<'a>>⟧.encodes HasNoNumber }
 {
     name_laws::<5, N>()
 }
@@ -42,6 +45,8 @@ pub fn ns_laws<'a, N: DataName>()
         ⟦<Ns<ReadName<'a>> as ParseRecordData<'a>>⟧.model (SameName IgnoringCase N.labels) }
     ensures read { IsReadAs ⟦<Ns<N> as ComposeRecordData>⟧
         ⟦<Ns<ReadName<'a>> as ParseRecordData<'a>>⟧ HasNoNumber (SameName IgnoringCase N.labels) }
+    ensures table { FollowsTable 2 ⟦<Ns<N> as ComposeRecordData>⟧
+        ⟦<Ns<ReadName<'a>> as ParseRecordData<'a>>⟧.encodes HasNoNumber }
 {
     name_laws::<2, N>()
 }
@@ -54,6 +59,8 @@ pub fn ptr_laws<'a, N: DataName>()
         ⟦<Ptr<ReadName<'a>> as ParseRecordData<'a>>⟧.model (SameName IgnoringCase N.labels) }
     ensures read { IsReadAs ⟦<Ptr<N> as ComposeRecordData>⟧
         ⟦<Ptr<ReadName<'a>> as ParseRecordData<'a>>⟧ HasNoNumber (SameName IgnoringCase N.labels) }
+    ensures table { FollowsTable 12 ⟦<Ptr<N> as ComposeRecordData>⟧
+        ⟦<Ptr<ReadName<'a>> as ParseRecordData<'a>>⟧.encodes HasNoNumber }
 {
     name_laws::<12, N>()
 }
@@ -67,6 +74,8 @@ pub fn dname_laws<'a, N: DataName>()
     ensures read { IsReadAs ⟦<Dname<N> as ComposeRecordData>⟧
         ⟦<Dname<ReadName<'a>> as ParseRecordData<'a>>⟧
         HasNoNumber (SameWholeName WithCase N.labels) }
+    ensures table { FollowsTable 39 ⟦<Dname<N> as ComposeRecordData>⟧
+        ⟦<Dname<ReadName<'a>> as ParseRecordData<'a>>⟧.encodes HasNoNumber }
 {}
 
 /// MX: the preference is read as the same number, and the exchange as an equal name, ignoring ASCII case (RFC 1035,
@@ -78,6 +87,8 @@ pub fn mx_laws<'a, N: DataName>()
         ⟦<Mx<ReadName<'a>> as ParseRecordData<'a>>⟧.model (SameMx IgnoringCase N.labels) }
     ensures read { IsReadAs ⟦<Mx<N> as ComposeRecordData>⟧
         ⟦<Mx<ReadName<'a>> as ParseRecordData<'a>>⟧ FitsNumber (SameMx IgnoringCase N.labels) }
+    ensures table { FollowsTable 15 ⟦<Mx<N> as ComposeRecordData>⟧
+        ⟦<Mx<ReadName<'a>> as ParseRecordData<'a>>⟧.encodes FitsNumber }
 {}
 
 /// SRV: the numbers are read as the same numbers, and the target as the same name, with its case (RFC 2782).
@@ -88,6 +99,8 @@ pub fn srv_laws<'a, N: DataName>()
         ⟦<Srv<ReadName<'a>> as ParseRecordData<'a>>⟧.model (SameSrv IgnoringCase N.labels) }
     ensures read { IsReadAs ⟦<Srv<N> as ComposeRecordData>⟧
         ⟦<Srv<ReadName<'a>> as ParseRecordData<'a>>⟧ FitsSrv (SameSrv WithCase N.labels) }
+    ensures table { FollowsTable 33 ⟦<Srv<N> as ComposeRecordData>⟧
+        ⟦<Srv<ReadName<'a>> as ParseRecordData<'a>>⟧.encodes FitsSrv }
 {}
 
 /// SOA: the numbers are read as the same numbers, and the names as equal names, ignoring ASCII case (RFC 1035,
@@ -99,4 +112,6 @@ pub fn soa_laws<'a, N: DataName>()
         ⟦<Soa<ReadName<'a>> as ParseRecordData<'a>>⟧.model (SameSoa IgnoringCase N.labels) }
     ensures read { IsReadAs ⟦<Soa<N> as ComposeRecordData>⟧
         ⟦<Soa<ReadName<'a>> as ParseRecordData<'a>>⟧ FitsSoa (SameSoa IgnoringCase N.labels) }
+    ensures table { FollowsTable 6 ⟦<Soa<N> as ComposeRecordData>⟧
+        ⟦<Soa<ReadName<'a>> as ParseRecordData<'a>>⟧.encodes FitsSoa }
 {}

@@ -1,4 +1,5 @@
 //! Data with character strings.
+ghost use Rattle.domain_data_laws.specs.ByTable.{FollowsTable};
 ghost use Rattle.domain_data_laws.specs.Fitting.{HasNoNumber, FitsNaptr};
 ghost use Rattle.domain_data_laws.specs.Laws.{SeesWhatIsRead, LikeMeansSame, IsReadAs};
 ghost use Rattle.domain_data_laws.specs.SameData.{IgnoringCase, WithCase, SameHinfo, SameNaptr};
@@ -17,6 +18,8 @@ pub fn hinfo_laws<'a, Octs: Octets>()
         ⟦<Hinfo<&'a [u8]> as ParseRecordData<'a>>⟧.model SameHinfo }
     ensures read { IsReadAs ⟦<Hinfo<Octs> as ComposeRecordData>⟧
         ⟦<Hinfo<&'a [u8]> as ParseRecordData<'a>>⟧ HasNoNumber SameHinfo }
+    ensures table { FollowsTable 13 ⟦<Hinfo<Octs> as ComposeRecordData>⟧
+        ⟦<Hinfo<&'a [u8]> as ParseRecordData<'a>>⟧.encodes HasNoNumber }
 {}
 
 /// NAPTR: the numbers and strings are read as the same, and the replacement as the same name, with its case (RFC 3403,
@@ -30,4 +33,6 @@ pub fn naptr_laws<'a, Octs: Octets, N: DataName>()
     ensures read { IsReadAs ⟦<Naptr<Octs, N> as ComposeRecordData>⟧
         ⟦<Naptr<&'a [u8], ReadName<'a>> as ParseRecordData<'a>>⟧
         FitsNaptr (SameNaptr WithCase N.labels) }
+    ensures table { FollowsTable 35 ⟦<Naptr<Octs, N> as ComposeRecordData>⟧
+        ⟦<Naptr<&'a [u8], ReadName<'a>> as ParseRecordData<'a>>⟧.encodes FitsNaptr }
 {}

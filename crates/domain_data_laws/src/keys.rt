@@ -1,4 +1,5 @@
 //! Data with keys, and with digests of keys and of certificates; and who may issue certificates.
+ghost use Rattle.domain_data_laws.specs.ByTable.{FollowsTable};
 ghost use Rattle.domain_data_laws.specs.Fitting.{FitsKey, FitsSshfp, FitsTlsa, FitsCaa};
 ghost use Rattle.domain_data_laws.specs.Laws.{SeesWhatIsRead, LikeMeansSame, IsReadAs};
 ghost use Rattle.domain_data_laws.specs.SameData.{SameKey, SameSshfp, SameTlsa, SameCaa};
@@ -33,6 +34,8 @@ pub fn ds_laws<'a, Octs: Octets>()
         ⟦<Ds<&'a [u8]> as ParseRecordData<'a>>⟧.model SameKey }
     ensures read { IsReadAs ⟦<Ds<Octs> as ComposeRecordData>⟧
         ⟦<Ds<&'a [u8]> as ParseRecordData<'a>>⟧ FitsKey SameKey }
+    ensures table { FollowsTable 43 ⟦<Ds<Octs> as ComposeRecordData>⟧
+        ⟦<Ds<&'a [u8]> as ParseRecordData<'a>>⟧.encodes FitsKey }
 {
     key_laws::<43, 16, Octs>()
 }
@@ -45,6 +48,8 @@ pub fn sshfp_laws<'a, Octs: Octets>()
         ⟦<Sshfp<&'a [u8]> as ParseRecordData<'a>>⟧.model SameSshfp }
     ensures read { IsReadAs ⟦<Sshfp<Octs> as ComposeRecordData>⟧
         ⟦<Sshfp<&'a [u8]> as ParseRecordData<'a>>⟧ FitsSshfp SameSshfp }
+    ensures table { FollowsTable 44 ⟦<Sshfp<Octs> as ComposeRecordData>⟧
+        ⟦<Sshfp<&'a [u8]> as ParseRecordData<'a>>⟧.encodes FitsSshfp }
 {}
 
 /// DNSKEY: the numbers and the key are read as the same (RFC 4034, 2.1).
@@ -55,6 +60,8 @@ pub fn dnskey_laws<'a, Octs: Octets>()
         ⟦<Dnskey<&'a [u8]> as ParseRecordData<'a>>⟧.model SameKey }
     ensures read { IsReadAs ⟦<Dnskey<Octs> as ComposeRecordData>⟧
         ⟦<Dnskey<&'a [u8]> as ParseRecordData<'a>>⟧ FitsKey SameKey }
+    ensures table { FollowsTable 48 ⟦<Dnskey<Octs> as ComposeRecordData>⟧
+        ⟦<Dnskey<&'a [u8]> as ParseRecordData<'a>>⟧.encodes FitsKey }
 {
     key_laws::<48, 64, Octs>()
 }
@@ -67,6 +74,8 @@ pub fn tlsa_laws<'a, Octs: Octets>()
         ⟦<Tlsa<&'a [u8]> as ParseRecordData<'a>>⟧.model SameTlsa }
     ensures read { IsReadAs ⟦<Tlsa<Octs> as ComposeRecordData>⟧
         ⟦<Tlsa<&'a [u8]> as ParseRecordData<'a>>⟧ FitsTlsa SameTlsa }
+    ensures table { FollowsTable 52 ⟦<Tlsa<Octs> as ComposeRecordData>⟧
+        ⟦<Tlsa<&'a [u8]> as ParseRecordData<'a>>⟧.encodes FitsTlsa }
 {}
 
 /// CAA: the flags, the tag and the value are read as the same (RFC 8659, 4.1).
@@ -77,4 +86,6 @@ pub fn caa_laws<'a, Octs: Octets>()
         ⟦<Caa<&'a [u8]> as ParseRecordData<'a>>⟧.model SameCaa }
     ensures read { IsReadAs ⟦<Caa<Octs> as ComposeRecordData>⟧
         ⟦<Caa<&'a [u8]> as ParseRecordData<'a>>⟧ FitsCaa SameCaa }
+    ensures table { FollowsTable 257 ⟦<Caa<Octs> as ComposeRecordData>⟧
+        ⟦<Caa<&'a [u8]> as ParseRecordData<'a>>⟧.encodes FitsCaa }
 {}

@@ -1,4 +1,5 @@
 //! Data of types after RFC 1035 with names that are never compressed.
+ghost use Rattle.domain_data_laws.specs.ByTable.{FollowsTable};
 ghost use Rattle.domain_data_laws.specs.Fitting.{HasNoNumber, FitsNumber};
 ghost use Rattle.domain_data_laws.specs.Laws.{SeesWhatIsRead, LikeMeansSame, IsReadAs};
 ghost use Rattle.domain_data_laws.specs.SameData.{IgnoringCase, WithCase, SameHost, SameRp, SamePx};
@@ -35,6 +36,8 @@ pub fn rp_laws<'a, N: DataName>()
         ⟦<Rp<ReadName<'a>> as ParseRecordData<'a>>⟧.model (SameRp IgnoringCase N.labels) }
     ensures read { IsReadAs ⟦<Rp<N> as ComposeRecordData>⟧
         ⟦<Rp<ReadName<'a>> as ParseRecordData<'a>>⟧ HasNoNumber (SameRp WithCase N.labels) }
+    ensures table { FollowsTable 17 ⟦<Rp<N> as ComposeRecordData>⟧
+        ⟦<Rp<ReadName<'a>> as ParseRecordData<'a>>⟧.encodes HasNoNumber }
 {}
 
 /// AFSDB: the number is read as the same number, and the host as the same name, with its case (RFC 1183, 1).
@@ -45,6 +48,8 @@ pub fn afsdb_laws<'a, N: DataName>()
         ⟦<Afsdb<ReadName<'a>> as ParseRecordData<'a>>⟧.model (SameHost IgnoringCase N.labels) }
     ensures read { IsReadAs ⟦<Afsdb<N> as ComposeRecordData>⟧
         ⟦<Afsdb<ReadName<'a>> as ParseRecordData<'a>>⟧ FitsNumber (SameHost WithCase N.labels) }
+    ensures table { FollowsTable 18 ⟦<Afsdb<N> as ComposeRecordData>⟧
+        ⟦<Afsdb<ReadName<'a>> as ParseRecordData<'a>>⟧.encodes FitsNumber }
 {
     host_laws::<18, N>()
 }
@@ -57,6 +62,8 @@ pub fn rt_laws<'a, N: DataName>()
         ⟦<Rt<ReadName<'a>> as ParseRecordData<'a>>⟧.model (SameHost IgnoringCase N.labels) }
     ensures read { IsReadAs ⟦<Rt<N> as ComposeRecordData>⟧
         ⟦<Rt<ReadName<'a>> as ParseRecordData<'a>>⟧ FitsNumber (SameHost WithCase N.labels) }
+    ensures table { FollowsTable 21 ⟦<Rt<N> as ComposeRecordData>⟧
+        ⟦<Rt<ReadName<'a>> as ParseRecordData<'a>>⟧.encodes FitsNumber }
 {
     host_laws::<21, N>()
 }
@@ -69,6 +76,8 @@ pub fn px_laws<'a, N: DataName>()
         ⟦<Px<ReadName<'a>> as ParseRecordData<'a>>⟧.model (SamePx IgnoringCase N.labels) }
     ensures read { IsReadAs ⟦<Px<N> as ComposeRecordData>⟧
         ⟦<Px<ReadName<'a>> as ParseRecordData<'a>>⟧ FitsNumber (SamePx WithCase N.labels) }
+    ensures table { FollowsTable 26 ⟦<Px<N> as ComposeRecordData>⟧
+        ⟦<Px<ReadName<'a>> as ParseRecordData<'a>>⟧.encodes FitsNumber }
 {}
 
 /// KX: the number is read as the same number, and the host as the same name, with its case (RFC 2230, 3).
@@ -79,6 +88,8 @@ pub fn kx_laws<'a, N: DataName>()
         ⟦<Kx<ReadName<'a>> as ParseRecordData<'a>>⟧.model (SameHost IgnoringCase N.labels) }
     ensures read { IsReadAs ⟦<Kx<N> as ComposeRecordData>⟧
         ⟦<Kx<ReadName<'a>> as ParseRecordData<'a>>⟧ FitsNumber (SameHost WithCase N.labels) }
+    ensures table { FollowsTable 36 ⟦<Kx<N> as ComposeRecordData>⟧
+        ⟦<Kx<ReadName<'a>> as ParseRecordData<'a>>⟧.encodes FitsNumber }
 {
     host_laws::<36, N>()
 }

@@ -1,4 +1,5 @@
-//! Laws of record data: what was composed for data of a type is read as the same data.
+//! Laws of record data. What was composed for data of a type is read as the same data. The data follows the line of
+//! its type in the table of record types (`fields_of` of `domain_descriptor`).
 #![tactic(auto)]
 
 pub mod address;

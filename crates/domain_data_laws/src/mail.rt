@@ -1,4 +1,5 @@
 //! Data of the types of RFC 1035 that tell of mailboxes.
+ghost use Rattle.domain_data_laws.specs.ByTable.{FollowsTable};
 ghost use Rattle.domain_data_laws.specs.Fitting.{HasNoNumber};
 ghost use Rattle.domain_data_laws.specs.Laws.{SeesWhatIsRead, LikeMeansSame, IsReadAs};
 ghost use Rattle.domain_data_laws.specs.SameData.{IgnoringCase, SameName, SameMinfo};
@@ -17,6 +18,8 @@ pub fn mb_laws<'a, N: DataName>()
         ⟦<Mb<ReadName<'a>> as ParseRecordData<'a>>⟧.model (SameName IgnoringCase N.labels) }
     ensures read { IsReadAs ⟦<Mb<N> as ComposeRecordData>⟧
         ⟦<Mb<ReadName<'a>> as ParseRecordData<'a>>⟧ HasNoNumber (SameName IgnoringCase N.labels) }
+    ensures table { FollowsTable 7 ⟦<Mb<N> as ComposeRecordData>⟧
+        ⟦<Mb<ReadName<'a>> as ParseRecordData<'a>>⟧.encodes HasNoNumber }
 {
     name_laws::<7, N>()
 }
@@ -29,6 +32,8 @@ pub fn md_laws<'a, N: DataName>()
         ⟦<Md<ReadName<'a>> as ParseRecordData<'a>>⟧.model (SameName IgnoringCase N.labels) }
     ensures read { IsReadAs ⟦<Md<N> as ComposeRecordData>⟧
         ⟦<Md<ReadName<'a>> as ParseRecordData<'a>>⟧ HasNoNumber (SameName IgnoringCase N.labels) }
+    ensures table { FollowsTable 3 ⟦<Md<N> as ComposeRecordData>⟧
+        ⟦<Md<ReadName<'a>> as ParseRecordData<'a>>⟧.encodes HasNoNumber }
 {
     name_laws::<3, N>()
 }
@@ -41,6 +46,8 @@ pub fn mf_laws<'a, N: DataName>()
         ⟦<Mf<ReadName<'a>> as ParseRecordData<'a>>⟧.model (SameName IgnoringCase N.labels) }
     ensures read { IsReadAs ⟦<Mf<N> as ComposeRecordData>⟧
         ⟦<Mf<ReadName<'a>> as ParseRecordData<'a>>⟧ HasNoNumber (SameName IgnoringCase N.labels) }
+    ensures table { FollowsTable 4 ⟦<Mf<N> as ComposeRecordData>⟧
+        ⟦<Mf<ReadName<'a>> as ParseRecordData<'a>>⟧.encodes HasNoNumber }
 {
     name_laws::<4, N>()
 }
@@ -53,6 +60,8 @@ pub fn mg_laws<'a, N: DataName>()
         ⟦<Mg<ReadName<'a>> as ParseRecordData<'a>>⟧.model (SameName IgnoringCase N.labels) }
     ensures read { IsReadAs ⟦<Mg<N> as ComposeRecordData>⟧
         ⟦<Mg<ReadName<'a>> as ParseRecordData<'a>>⟧ HasNoNumber (SameName IgnoringCase N.labels) }
+    ensures table { FollowsTable 8 ⟦<Mg<N> as ComposeRecordData>⟧
+        ⟦<Mg<ReadName<'a>> as ParseRecordData<'a>>⟧.encodes HasNoNumber }
 {
     name_laws::<8, N>()
 }
@@ -65,6 +74,8 @@ pub fn mr_laws<'a, N: DataName>()
         ⟦<Mr<ReadName<'a>> as ParseRecordData<'a>>⟧.model (SameName IgnoringCase N.labels) }
     ensures read { IsReadAs ⟦<Mr<N> as ComposeRecordData>⟧
         ⟦<Mr<ReadName<'a>> as ParseRecordData<'a>>⟧ HasNoNumber (SameName IgnoringCase N.labels) }
+    ensures table { FollowsTable 9 ⟦<Mr<N> as ComposeRecordData>⟧
+        ⟦<Mr<ReadName<'a>> as ParseRecordData<'a>>⟧.encodes HasNoNumber }
 {
     name_laws::<9, N>()
 }
@@ -78,4 +89,6 @@ pub fn minfo_laws<'a, N: DataName>()
     ensures read { IsReadAs ⟦<Minfo<N> as ComposeRecordData>⟧
         ⟦<Minfo<ReadName<'a>> as ParseRecordData<'a>>⟧
         HasNoNumber (SameMinfo IgnoringCase N.labels) }
+    ensures table { FollowsTable 14 ⟦<Minfo<N> as ComposeRecordData>⟧
+        ⟦<Minfo<ReadName<'a>> as ParseRecordData<'a>>⟧.encodes HasNoNumber }
 {}

@@ -1,4 +1,5 @@
 //! Data of SVCB and of types like it.
+ghost use Rattle.domain_data_laws.specs.ByTable.{FollowsTable};
 ghost use Rattle.domain_data_laws.specs.Fitting.{FitsService};
 ghost use Rattle.domain_data_laws.specs.Laws.{SeesWhatIsRead, LikeMeansSame, IsReadAs};
 ghost use Rattle.domain_data_laws.specs.SameData.{IgnoringCase, WithCase, SameService};
@@ -37,6 +38,8 @@ pub fn svcb_laws<'a, Octs: Octets, N: DataName>()
     ensures read { IsReadAs ⟦<Svcb<Octs, N> as ComposeRecordData>⟧
         ⟦<Svcb<&'a [u8], ReadName<'a>> as ParseRecordData<'a>>⟧
         FitsService (SameService WithCase N.labels) }
+    ensures table { FollowsTable 64 ⟦<Svcb<Octs, N> as ComposeRecordData>⟧
+        ⟦<Svcb<&'a [u8], ReadName<'a>> as ParseRecordData<'a>>⟧.encodes FitsService }
 {
     service_laws::<64, Octs, N>()
 }
@@ -51,6 +54,8 @@ pub fn https_laws<'a, Octs: Octets, N: DataName>()
     ensures read { IsReadAs ⟦<Https<Octs, N> as ComposeRecordData>⟧
         ⟦<Https<&'a [u8], ReadName<'a>> as ParseRecordData<'a>>⟧
         FitsService (SameService WithCase N.labels) }
+    ensures table { FollowsTable 65 ⟦<Https<Octs, N> as ComposeRecordData>⟧
+        ⟦<Https<&'a [u8], ReadName<'a>> as ParseRecordData<'a>>⟧.encodes FitsService }
 {
     service_laws::<65, Octs, N>()
 }

@@ -1,4 +1,5 @@
 //! Data with signatures of records, and data that shows that a name or a type isn't there (RFC 4034, 3 and 4).
+ghost use Rattle.domain_data_laws.specs.ByTable.{FollowsTable};
 ghost use Rattle.domain_data_laws.specs.Fitting.{HasNoNumber, FitsRrsig};
 ghost use Rattle.domain_data_laws.specs.Laws.{SeesWhatIsRead, LikeMeansSame, IsReadAs};
 ghost use Rattle.domain_data_laws.specs.SameData.{IgnoringCase, WithCase, SameRrsig, SameNsec};
@@ -20,6 +21,8 @@ pub fn rrsig_laws<'a, Octs: Octets, N: DataName>()
     ensures read { IsReadAs ⟦<Rrsig<Octs, N> as ComposeRecordData>⟧
         ⟦<Rrsig<&'a [u8], ReadName<'a>> as ParseRecordData<'a>>⟧
         FitsRrsig (SameRrsig WithCase N.labels) }
+    ensures table { FollowsTable 46 ⟦<Rrsig<Octs, N> as ComposeRecordData>⟧
+        ⟦<Rrsig<&'a [u8], ReadName<'a>> as ParseRecordData<'a>>⟧.encodes FitsRrsig }
 {}
 
 /// NSEC: the next name is read as the same name, with its case, and the types as the same (RFC 4034, 4.1).
@@ -32,4 +35,6 @@ pub fn nsec_laws<'a, Octs: Octets, N: DataName>()
     ensures read { IsReadAs ⟦<Nsec<Octs, N> as ComposeRecordData>⟧
         ⟦<Nsec<&'a [u8], ReadName<'a>> as ParseRecordData<'a>>⟧
         HasNoNumber (SameNsec WithCase N.labels) }
+    ensures table { FollowsTable 47 ⟦<Nsec<Octs, N> as ComposeRecordData>⟧
+        ⟦<Nsec<&'a [u8], ReadName<'a>> as ParseRecordData<'a>>⟧.encodes HasNoNumber }
 {}

@@ -1,4 +1,5 @@
 //! Data that is text, and data of any type.
+ghost use Rattle.domain_data_laws.specs.ByTable.{FollowsTable};
 ghost use Rattle.domain_data_laws.specs.Fitting.{HasNoNumber};
 ghost use Rattle.domain_data_laws.specs.Laws.{SeesWhatIsRead, LikeMeansSame, IsReadAs};
 ghost use Rattle.domain_data_laws.specs.SameData.{SameTxt, SameUnknown};
@@ -16,6 +17,8 @@ pub fn txt_laws<'a, Octs: Octets>()
         ⟦<Txt<&'a [u8]> as ParseRecordData<'a>>⟧.model SameTxt }
     ensures read { IsReadAs ⟦<Txt<Octs> as ComposeRecordData>⟧
         ⟦<Txt<&'a [u8]> as ParseRecordData<'a>>⟧ HasNoNumber SameTxt }
+    ensures table { FollowsTable 16 ⟦<Txt<Octs> as ComposeRecordData>⟧
+        ⟦<Txt<&'a [u8]> as ParseRecordData<'a>>⟧.encodes HasNoNumber }
 {}
 
 /// Data of any type as its octets: they are read as the same octets (RFC 3597, 3).

@@ -1,12 +1,24 @@
 use Rattle.std.specs.Prelude.{refl}
+use Rattle.std.proofs.lemmas.Bool.{true≢false}
 use Rattle.domain_fields.specs.Names.{NameFieldAt}
 use Rattle.domain_data.specs.Shapes.{NoNumberName, NumberNameAt, number_name_data}
 use Rattle.domain_data.specs.Views.{fields_of}
 use Rattle.domain_data_laws.proofs.Fields.{last_name, number16_before}
+use Rattle.domain_data_laws.proofs.Lines.{both, composed_data, no_name, one_name}
 use Rattle.domain_data_laws.proofs.Reading.{fields_read_as}
+use Rattle.domain_data_laws.proofs.Types.{number_name_line}
 use Rattle.domain_data_laws.proofs.host.mx_laws.Goals as goal
 
 pub returns-clause-read : goal.returns-clause-read
 returns-clause-read g c = λ it fits.
     let labels = g.N.NameLabels.labels in
     (refl, fields_read_as _ NumberNameAt NoNumberName _ _ number_name_data (number16_before _ NameFieldAt _ (fields_of it).first fits (last_name (labels (fields_of it).rest.name))))
+
+pub returns-clause-table : goal.returns-clause-table
+returns-clause-table g c = record {
+  typed = λ it. refl;
+  reads = number_name_line;
+  composes = λ it fits compresses t s may. composed_data number_name_line ((returns-clause-read g c it fits).1 compresses t s may);
+  names = λ it. (both no_name one_name).counts 0;
+  plain = λ may. absurd (true≢false may);
+}

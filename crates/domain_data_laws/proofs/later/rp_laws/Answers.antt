@@ -3,7 +3,9 @@ use Rattle.domain_fields.specs.Names.{NameFieldAt}
 use Rattle.domain_data.specs.Shapes.{NamesAt, NoNames, names_data}
 use Rattle.domain_data.specs.Views.{fields_of}
 use Rattle.domain_data_laws.proofs.Fields.{last_whole_name, whole_name_before}
+use Rattle.domain_data_laws.proofs.Lines.{both, composed_data, no_name, plain, plain_both}
 use Rattle.domain_data_laws.proofs.Reading.{fields_read_as}
+use Rattle.domain_data_laws.proofs.Types.{names_line}
 use Rattle.domain_data_laws.proofs.later.rp_laws.Goals as goal
 
 pub returns-clause-read : goal.returns-clause-read
@@ -11,3 +13,12 @@ returns-clause-read g c = λ it fits.
     let labels = g.N.NameLabels.labels in
     let absolute = g.met.N.Absolute.absolute in
     (refl, fields_read_as _ NamesAt NoNames _ _ names_data (whole_name_before _ NameFieldAt _ (labels (fields_of it).first.name) (absolute (fields_of it).first.name) (last_whole_name (labels (fields_of it).rest.name) (absolute (fields_of it).rest.name))))
+
+pub returns-clause-table : goal.returns-clause-table
+returns-clause-table g c = record {
+  typed = λ it. refl;
+  reads = names_line;
+  composes = λ it fits compresses t s may. composed_data names_line ((returns-clause-read g c it fits).1 compresses t s may);
+  names = λ it. (both no_name no_name).counts 0;
+  plain = λ may it compresses. plain_both plain plain;
+}
