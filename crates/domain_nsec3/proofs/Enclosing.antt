@@ -6,9 +6,11 @@ use Rattle.std.proofs.lemmas.List.Folds.{none_from_all_within}
 use Rattle.domain_flat.specs.Flat.{suffix_lists}
 use Rattle.domain_name.specs.Names.{name_labels}
 use Rattle.domain_nsec3.specs.Enclosers.{MatchesAt, CoversAt, IsEncloserProof}
-use Rattle.domain_nsec3.specs.Hashing.{nsec3_hash}
+use Rattle.domain_nsec3.specs.Hashing.{nsec3_hash, wildcard_at}
+use Rattle.domain_nsec3.specs.NameErrors.{IsNameErrorProof}
 use Rattle.domain_nsec3.specs.declared.encloser.EncloserProof.{EncloserProof}
 use Rattle.domain_nsec3.specs.declared.encloser.HashedRecord.{HashedRecord}
+use Rattle.domain_nsec3.specs.declared.denial.NameErrorProof.{NameErrorProof}
 
 -- ---- a search in records
 
@@ -131,3 +133,28 @@ pub proved : (rs : List HashedRecord) (k : ℕ) (salt : List ℕ) (labels closer
 proved rs k salt labels closer above old left it h taken is_closer is_above m c =
     let t = suffix_taken labels above (h.before + 1) left (sym h.left_is ∙ taken) in
     record { before = h.before; next_closer = is_closer ∙ h.closer_is; closest = is_above ∙ t.1; within = t.0; matched = m; longest = h.none; covered = c }
+
+-- ---- name errors
+
+not_below : (rs : List HashedRecord) (k : ℕ) (salt : List ℕ) (labels : List (List ℕ)) (a b : EncloserProof) → (p : IsEncloserProof rs k salt labels a) → (q : IsEncloserProof rs k salt labels b) → p.before + 1 ≤ q.before → ⊥
+not_below rs k salt labels a b p q low =
+    q.longest (p.before + 1) a.matching low (subst (λ (x : List (List ℕ)). MatchesAt rs k salt (nsec3_hash salt k x) a.matching) p.closest p.matched)
+
+one_before : (rs : List HashedRecord) (k : ℕ) (salt : List ℕ) (labels : List (List ℕ)) (a b : EncloserProof) → (p : IsEncloserProof rs k salt labels a) → (q : IsEncloserProof rs k salt labels b) → p.before ≡ q.before
+one_before rs k salt labels a b p q =
+    ⊎_elim (λ (h : p.before + 1 ≤ q.before). absurd (not_below rs k salt labels a b p q h))
+    (λ (s : (p.before ≡ q.before) ⊎ (q.before + 1 ≤ p.before)). ⊎_elim (λ (e : p.before ≡ q.before). e) (λ (h : q.before + 1 ≤ p.before). absurd (not_below rs k salt labels b a q p h)) s)
+    (apart p.before q.before)
+
+-- two proofs are of one closest encloser
+one_closest : (rs : List HashedRecord) (k : ℕ) (salt : List ℕ) (labels : List (List ℕ)) (a b : EncloserProof) → IsEncloserProof rs k salt labels a → IsEncloserProof rs k salt labels b → name_labels a.closest ≡ name_labels b.closest
+one_closest rs k salt labels a b p q = p.closest ∙ (ap (λ (n : ℕ). drop (n + 1) labels) (one_before rs k salt labels a b p q) ∙ sym q.closest)
+
+pub error_none : (rs : List HashedRecord) (k : ℕ) (salt : List ℕ) (labels : List (List ℕ)) → ((it : EncloserProof) → IsEncloserProof rs k salt labels it → ⊥) → (it : NameErrorProof) → IsNameErrorProof rs k salt labels it → ⊥
+error_none rs k salt labels none it p = none it.encloser p.encloser
+
+pub error_uncovered : (rs : List HashedRecord) (k : ℕ) (salt : List ℕ) (labels : List (List ℕ)) (encloser : EncloserProof) (x : List ℕ) → IsEncloserProof rs k salt labels encloser
+    → x ≡ nsec3_hash salt k (wildcard_at (name_labels encloser.closest)) → ((i : ℕ) → CoversAt rs k salt x i → ⊥) → (it : NameErrorProof) → IsNameErrorProof rs k salt labels it → ⊥
+error_uncovered rs k salt labels encloser x e is none it p =
+    let same : name_labels it.encloser.closest ≡ name_labels encloser.closest = one_closest rs k salt labels it.encloser encloser p.encloser e in
+    none_covers rs k salt x (wildcard_at (name_labels encloser.closest)) is none it.wildcard (subst (λ (y : List (List ℕ)). CoversAt rs k salt (nsec3_hash salt k (wildcard_at y)) it.wildcard) same p.denied)

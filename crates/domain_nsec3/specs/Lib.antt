@@ -3,3 +3,7 @@ pub mod Covering
 pub mod Records
 pub mod Labels
 pub mod Enclosers
+pub mod Chains
+pub mod ChainViews
+pub mod Responses
+pub mod NameErrors

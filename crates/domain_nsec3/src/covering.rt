@@ -5,7 +5,7 @@ ghost use Rattle.domain_nsec3.specs.Covering.{MatchesHash, CoversHash, HashPrece
 use std::cmp::Ordering;
 
 /// Whether the first hash is before the second in hash order.
-fn is_before(first: &[u8], second: &[u8]) -> bool
+pub(crate) fn is_before(first: &[u8], second: &[u8]) -> bool
     ensures { IsTrue result ↔ HashPrecedes first.now second.now }
 {
     match first.cmp(second) {

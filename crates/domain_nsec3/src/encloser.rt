@@ -33,7 +33,7 @@ pub struct EncloserProof<'n> {
 }
 
 /// Whether a validator uses a record for hashes of this number of iterations and this salt.
-fn is_used_for(record: &HashedRecord<'_>, iterations: u16, salt: &[u8]) -> bool
+pub(crate) fn is_used_for(record: &HashedRecord<'_>, iterations: u16, salt: &[u8]) -> bool
     ensures { IsTrue result ↔ IsUsedFor iterations salt.now record.now }
 {
     record.data.is_usable() && record.data.iterations == iterations && record.data.salt == salt
@@ -73,7 +73,7 @@ fn matching_index(
 }
 
 /// The index of the first record that covers a hash.
-fn covering_index(
+pub(crate) fn covering_index(
     records: &[HashedRecord<'_>],
     iterations: u16,
     salt: &[u8],
@@ -92,7 +92,7 @@ fn covering_index(
 }
 
 /// The closest encloser of a name that records prove.
-fn find_encloser<'n>(
+pub(crate) fn find_encloser<'n>(
     name: Name<&'n [u8]>,
     iterations: u16,
     salt: &[u8],

@@ -1,7 +1,7 @@
 //! The zone of RFC 5155, appendix A, and responses of appendix B.
 use crate::{
-    HashedRecord, Nsec3, Nsec3Param, TooManyIterations, closest_encloser, covers, hash_name,
-    hash_of_label, label_of_hash, matches,
+    HashedRecord, Nsec3, Nsec3Chain, Nsec3Param, ProofIndices, TooManyIterations, closest_encloser,
+    covers, hash_name, hash_of_label, is_chain, label_of_hash, matches, name_error,
 };
 use domain_name::Name;
 
@@ -294,4 +294,257 @@ fn enclosers(rt: HostRuntime) {
     assert!(rt; proves(&[w, ns2], name, &name[4..], &name[2..], 0, 1));
     assert!(rt; proves_none(&[ns2], name));
     assert!(rt; proves_none(&[first, encloser], b"\x01x\x01w\x07example\x00"));
+}
+
+/// The hashes of the zone's records, in hash order: those of example., ns1, x.y.w, a, x.w, ai, y.w, w, the name whose
+/// label is a hash, ns2, *.w and xx (RFC 5155, A).
+fn zone_hashes() -> [[u8; 20]; 12] {
+    [
+        hash_in(b"0p9mhaveqvm6t7vbl5lop2u3t2rp3tom"),
+        hash_in(b"2t7b4g4vsa5smi47k61mv5bv1a22bojr"),
+        hash_in(b"2vptu5timamqttgl4luu9kg21e0aor3s"),
+        hash_in(b"35mthgpgcu1qg68fab165klnsnk3dpvl"),
+        hash_in(b"b4um86eghhds6nea196smvmlo4ors995"),
+        hash_in(b"gjeqe526plbf1g8mklp59enfd789njgi"),
+        hash_in(b"ji6neoaepv8b5o6k4ev33abha8ht9fgc"),
+        hash_in(b"k8udemvp1j2f7eg6jebps17vp3n8i58h"),
+        hash_in(b"kohar7mbb8dc2ce8a9qvl8hon4k53uhi"),
+        hash_in(b"q04jkcevqvmu85r014c7dkba38o0ji5r"),
+        hash_in(b"r53bq7cc2uvmubfu5ocmm6pers9tk9en"),
+        hash_in(b"t644ebqk9bibcna874givr6joj62mlhv"),
+    ]
+}
+
+/// A record with these hashes.
+fn hashed<'m>(owner: [u8; 20], next: &'m [u8; 20]) -> HashedRecord<'m> {
+    HashedRecord {
+        owner,
+        data: Nsec3 {
+            algorithm: 1,
+            flags: 1,
+            iterations: 12,
+            salt: b"\xaa\xbb\xcc\xdd",
+            next: next.as_slice(),
+            types: b"",
+        },
+    }
+}
+
+/// The zone's records (RFC 5155, A).
+fn zone_records<'m>(hashes: &'m [[u8; 20]; 12]) -> [HashedRecord<'m>; 12] {
+    [
+        hashed(hashes[0], &hashes[1]),
+        hashed(hashes[1], &hashes[2]),
+        hashed(hashes[2], &hashes[3]),
+        hashed(hashes[3], &hashes[4]),
+        hashed(hashes[4], &hashes[5]),
+        hashed(hashes[5], &hashes[6]),
+        hashed(hashes[6], &hashes[7]),
+        hashed(hashes[7], &hashes[8]),
+        hashed(hashes[8], &hashes[9]),
+        hashed(hashes[9], &hashes[10]),
+        hashed(hashes[10], &hashes[11]),
+        hashed(hashes[11], &hashes[0]),
+    ]
+}
+
+/// What a call returns for these indices.
+fn indices(
+    first: usize,
+    second: Option<usize>,
+    third: Option<usize>,
+) -> Result<Option<ProofIndices>, TooManyIterations> {
+    Ok(Some(ProofIndices {
+        first,
+        second,
+        third,
+    }))
+}
+
+/// The records of the responses of RFC 5155, B.1 to B.6.
+#[test]
+fn responses(rt: HostRuntime) {
+    let hashes = zone_hashes();
+    let records = zone_records(&hashes);
+    let Some(chain) = Nsec3Chain::new(&records) else {
+        return assert!(rt; false);
+    };
+    // B.1, a.c.x.w.example.: x.w.example. is matched, c.x.w.example. and *.x.w.example. are covered.
+    let Ok(name) = Name::from_slice(b"\x01a\x01c\x01x\x01w\x07example\x00") else {
+        return assert!(rt; false);
+    };
+    assert_eq!(rt;
+        chain.name_error(&name, 4, 12),
+        indices(4, Some(0), Some(3))
+    );
+    assert_eq!(rt;
+        chain.closest_encloser(&name, 4, 12),
+        indices(4, Some(0), None)
+    );
+    // B.2, ns1.example.
+    let Ok(name) = Name::from_slice(b"\x03ns1\x07example\x00") else {
+        return assert!(rt; false);
+    };
+    assert_eq!(rt; chain.no_data(&name, 12), indices(1, None, None));
+    // B.2.1, y.w.example., an empty non-terminal.
+    let Ok(name) = Name::from_slice(b"\x01y\x01w\x07example\x00") else {
+        return assert!(rt; false);
+    };
+    assert_eq!(rt; chain.no_data(&name, 12), indices(6, None, None));
+    // B.3, the delegation c.example.: example. is matched, and c.example. is covered.
+    let Ok(name) = Name::from_slice(b"\x01c\x07example\x00") else {
+        return assert!(rt; false);
+    };
+    assert_eq!(rt; chain.unsigned(&name, 12), indices(0, Some(3), None));
+    // B.4 and B.5, a.z.w.example.: z.w.example. is covered, w.example. and *.w.example. are matched.
+    let Ok(name) = Name::from_slice(b"\x01a\x01z\x01w\x07example\x00") else {
+        return assert!(rt; false);
+    };
+    assert_eq!(rt; chain.wildcard_answer(&name, 3, 12), indices(9, None, None));
+    assert_eq!(rt;
+        chain.wildcard_no_data(&name, 3, 12),
+        indices(7, Some(9), Some(10))
+    );
+    // B.6, example.
+    let Ok(name) = Name::from_slice(b"\x07example\x00") else {
+        return assert!(rt; false);
+    };
+    assert_eq!(rt; chain.unsigned(&name, 12), indices(0, None, None));
+}
+
+/// Records that aren't there, the limit, and a record that a response has once.
+#[test]
+fn no_responses(rt: HostRuntime) {
+    let hashes = zone_hashes();
+    let records = zone_records(&hashes);
+    let Some(chain) = Nsec3Chain::new(&records) else {
+        return assert!(rt; false);
+    };
+    let Ok(name) = Name::from_slice(b"\x01a\x01z\x01w\x07example\x00") else {
+        return assert!(rt; false);
+    };
+    // A record matches the wildcard.
+    assert_eq!(rt; chain.name_error(&name, 3, 12), Ok(None));
+    assert_eq!(rt; chain.no_data(&name, 12), Ok(None));
+    // The closest provable encloser is higher: no record matches z.w.example.
+    assert_eq!(rt;
+        chain.closest_encloser(&name, 4, 12),
+        chain.closest_encloser(&name, 3, 12)
+    );
+    assert_eq!(rt; chain.wildcard_no_data(&name, 4, 12), Ok(None));
+    // No record matches the root, and the name has five labels.
+    assert_eq!(rt; chain.closest_encloser(&name, 1, 12), Ok(None));
+    assert_eq!(rt; chain.wildcard_answer(&name, 5, 12), Ok(None));
+    assert_eq!(rt; chain.wildcard_answer(&name, 0, 12), Ok(None));
+    assert_eq!(rt; chain.name_error(&name, 3, 11), Err(TooManyIterations));
+    assert_eq!(rt;
+        chain.closest_encloser(&name, 3, 11),
+        Err(TooManyIterations)
+    );
+    assert_eq!(rt; chain.no_data(&name, 11), Err(TooManyIterations));
+    assert_eq!(rt; chain.unsigned(&name, 11), Err(TooManyIterations));
+    assert_eq!(rt;
+        chain.wildcard_no_data(&name, 3, 11),
+        Err(TooManyIterations)
+    );
+    assert_eq!(rt; chain.wildcard_answer(&name, 3, 11), Err(TooManyIterations));
+    // A record alone matches the apex, and covers all other names.
+    let alone = [hashed(hashes[0], &hashes[0])];
+    let Some(chain) = Nsec3Chain::new(&alone) else {
+        return assert!(rt; false);
+    };
+    assert_eq!(rt; chain.name_error(&name, 2, 12), indices(0, None, None));
+    assert_eq!(rt; chain.unsigned(&name, 12), indices(0, None, None));
+    // Without Opt-Out no unsigned subzone is shown.
+    let mut signed = alone;
+    signed[0].data.flags = 0;
+    let Some(chain) = Nsec3Chain::new(&signed) else {
+        return assert!(rt; false);
+    };
+    assert_eq!(rt; chain.unsigned(&name, 12), Ok(None));
+}
+
+/// The record that matches or covers a hash: at each record, between two, before the first and after the last.
+#[test]
+fn searching(rt: HostRuntime) {
+    let hashes = zone_hashes();
+    let records = zone_records(&hashes);
+    let Some(chain) = Nsec3Chain::new(&records) else {
+        return assert!(rt; false);
+    };
+    for i in 0..12 {
+        assert_eq!(rt; chain.matching(&hashes[i]), Some(i));
+        assert_eq!(rt; chain.covering(&hashes[i]), None);
+        let mut after = hashes[i];
+        after[19] = after[19] ^ 1;
+        assert_eq!(rt; chain.matching(&after), None);
+    }
+    assert_eq!(rt; chain.covering(&[0; 20]), Some(11));
+    assert_eq!(rt; chain.covering(&[0xff; 20]), Some(11));
+    assert_eq!(rt; chain.covering(&hash_of(b"\x01c\x07example\x00")), Some(3));
+    assert_eq!(rt; chain.iterations(), 12);
+    assert_eq!(rt; chain.salt(), SALT.as_slice());
+    assert_eq!(rt; chain.records().len(), 12);
+}
+
+/// What is a chain, and what isn't.
+#[test]
+fn chains(rt: HostRuntime) {
+    let hashes = zone_hashes();
+    let records = zone_records(&hashes);
+    assert!(rt; is_chain(&records));
+    assert!(rt; is_chain(&[hashed(hashes[0], &hashes[0])]));
+    assert!(rt; !is_chain(&[]));
+    // The last record, or the first, is missing, or one in between.
+    assert!(rt; !is_chain(&records[..11]));
+    assert!(rt; !is_chain(&records[1..]));
+    assert!(rt; !is_chain(&[hashed(hashes[0], &hashes[1]), hashed(hashes[2], &hashes[0])]));
+    // Not in hash order, and one record twice.
+    assert!(rt; !is_chain(&[hashed(hashes[1], &hashes[0]), hashed(hashes[0], &hashes[1])]));
+    assert!(rt; !is_chain(&[hashed(hashes[0], &hashes[0]), hashed(hashes[0], &hashes[0])]));
+    // Another number of iterations, salt, algorithm or flag.
+    let two = [hashed(hashes[0], &hashes[1]), hashed(hashes[1], &hashes[0])];
+    assert!(rt; is_chain(&two));
+    let mut other = two;
+    other[1].data.iterations = 11;
+    assert!(rt; !is_chain(&other));
+    let mut other = two;
+    other[1].data.salt = b"\xaa\xbb\xcc";
+    assert!(rt; !is_chain(&other));
+    let mut other = two;
+    other[1].data.algorithm = 2;
+    assert!(rt; !is_chain(&other));
+    let mut other = two;
+    other[1].data.flags = 2;
+    assert!(rt; !is_chain(&other));
+    let mut other = two;
+    other[1].data.flags = 0;
+    assert!(rt; is_chain(&other));
+}
+
+/// What records prove of a name error: those of B.1, and not without each of them.
+#[test]
+fn name_errors(rt: HostRuntime) {
+    let hashes = zone_hashes();
+    let first = hashed(hashes[0], &hashes[1]);
+    let a = hashed(hashes[3], &hashes[4]);
+    let x_w = hashed(hashes[4], &hashes[5]);
+    let Ok(name) = Name::from_slice(b"\x01a\x01c\x01x\x01w\x07example\x00") else {
+        return assert!(rt; false);
+    };
+    let Ok(Some(proof)) = name_error(&name, 12, &SALT, 12, &[first, x_w, a]) else {
+        return assert!(rt; false);
+    };
+    assert_eq!(rt; proof.encloser.matching, 1);
+    assert_eq!(rt; proof.encloser.covering, 0);
+    assert_eq!(rt; proof.wildcard, 2);
+    assert!(rt; matches!(name_error(&name, 12, &SALT, 12, &[first, x_w]), Ok(None)));
+    assert!(rt; matches!(name_error(&name, 12, &SALT, 12, &[first, a]), Ok(None)));
+    assert!(rt; matches!(name_error(&name, 12, &SALT, 12, &[x_w, a]), Ok(None)));
+    assert!(rt;
+        matches!(
+            name_error(&name, 12, &SALT, 11, &[first, x_w, a]),
+            Err(TooManyIterations)
+        )
+    );
 }

@@ -1,0 +1,8 @@
+use Rattle.std.proofs.Common.{ℕ, List, IfNone, subst}
+use Rattle.domain_nsec3.specs.ChainViews.{chain_records}
+use Rattle.domain_nsec3.specs.Responses.{AreOfWildcardAnswer}
+use Rattle.domain_nsec3.proofs.chain.Nsec3Chain.wildcard_answer.Goals as goal
+
+pub returns-clause-none : goal.returns-clause-none
+returns-clause-none g c =
+    subst (λ (x : List (List ℕ)). IfNone c.wildcard_answer_in.result ((is : List ℕ) → AreOfWildcardAnswer (chain_records c.args.self.now) x c.args.labels is → ⊥)) c.for_slice.ensures c.wildcard_answer_in.ensures.none

@@ -1,0 +1,10 @@
+use Rattle.domain_name.specs.Names.{name_labels}
+use Rattle.domain_nsec3.proofs.Responding.{matches_name, none_matches_name, name_some}
+use Rattle.domain_nsec3.proofs.response.name_in.Goals as goal
+
+pub returns-in_default-clause-none : goal.returns-in_default-clause-none
+returns-in_default-clause-none c = none_matches_name c.args.records.now _ (name_labels c.args.name.now) c.hash_in-hash.ensures c.in_default.ensures.none
+
+pub returns-clause-some : goal.returns-clause-some
+returns-clause-some c =
+    name_some c.args.records.now (name_labels c.args.name.now) c.in-Some.matching _ (matches_name c.args.records.now _ (name_labels c.args.name.now) _ c.hash_in-hash.ensures c.in-Some.ensures.some) c.one.ensures
