@@ -40,7 +40,7 @@ fn has_label(name: &[u8], label: &[u8]) -> bool {
     label_of_hash(&hash).as_slice() == label && hash_of_label(label) == Some(hash)
 }
 
-/// The hashes of the zone's names, and of names that don't exist (RFC 5155, A, B.1, B.4 and B.5).
+/// The hashes of the zone's names, and of names that don't exist (RFC 5155, A, B.1, B.3 and B.4).
 #[test]
 fn hashes_of_the_zone(rt: HostRuntime) {
     assert!(rt; has_label(b"\x07example\x00", b"0p9mhaveqvm6t7vbl5lop2u3t2rp3tom"));
@@ -175,7 +175,7 @@ fn no_hash(rt: HostRuntime) {
     assert_eq!(rt; hash_of_label(b"t644ebqk9bibcna874givr6joj62mlhw"), None);
 }
 
-/// What records of the zone match and cover: names of B.1 and B.4, and the last record.
+/// What records of the zone match and cover: names of B.1 and B.3, and the last record.
 #[test]
 fn matching_and_covering(rt: HostRuntime) {
     let apex = hash_of(b"\x07example\x00");
@@ -272,7 +272,7 @@ fn proves_none(records: &[HashedRecord<'_>], name: &[u8]) -> bool {
     }
 }
 
-/// The closest enclosers of B.1, B.4 and B.6, and the records of B.2 and B.5, which prove none.
+/// The closest enclosers of B.1, B.3 and B.5, and records that prove none, such as that of B.4.
 #[test]
 fn enclosers(rt: HostRuntime) {
     let ns1 = hash_in(b"2t7b4g4vsa5smi47k61mv5bv1a22bojr");
@@ -315,19 +315,24 @@ fn zone_hashes() -> [[u8; 20]; 12] {
     ]
 }
 
-/// A record with these hashes.
-fn hashed<'m>(owner: [u8; 20], next: &'m [u8; 20]) -> HashedRecord<'m> {
+/// A record with these hashes and this salt.
+fn hashed_with<'m>(owner: [u8; 20], next: &'m [u8; 20], salt: &'m [u8]) -> HashedRecord<'m> {
     HashedRecord {
         owner,
         data: Nsec3 {
             algorithm: 1,
             flags: 1,
             iterations: 12,
-            salt: b"\xaa\xbb\xcc\xdd",
+            salt,
             next: next.as_slice(),
             types: b"",
         },
     }
+}
+
+/// A record with these hashes.
+fn hashed<'m>(owner: [u8; 20], next: &'m [u8; 20]) -> HashedRecord<'m> {
+    hashed_with(owner, next, b"\xaa\xbb\xcc\xdd")
 }
 
 /// The zone's records (RFC 5155, A).
@@ -472,10 +477,11 @@ fn searching(rt: HostRuntime) {
     let Some(chain) = Nsec3Chain::new(&records) else {
         return assert!(rt; false);
     };
+    let owners = zone_hashes();
     for i in 0..12 {
-        assert_eq!(rt; chain.matching(&hashes[i]), Some(i));
-        assert_eq!(rt; chain.covering(&hashes[i]), None);
-        let mut after = hashes[i];
+        assert_eq!(rt; chain.matching(&owners[i]), Some(i));
+        assert_eq!(rt; chain.covering(&owners[i]), None);
+        let mut after = owners[i];
         after[19] = after[19] ^ 1;
         assert_eq!(rt; chain.matching(&after), None);
     }
@@ -508,9 +514,8 @@ fn chains(rt: HostRuntime) {
     let mut other = two;
     other[1].data.iterations = 11;
     assert!(rt; !is_chain(&other));
-    let mut other = two;
-    other[1].data.salt = b"\xaa\xbb\xcc";
-    assert!(rt; !is_chain(&other));
+    let salted = hashed_with(hashes[1], &hashes[0], b"\xaa\xbb\xcc");
+    assert!(rt; !is_chain(&[two[0], salted]));
     let mut other = two;
     other[1].data.algorithm = 2;
     assert!(rt; !is_chain(&other));
