@@ -88,12 +88,19 @@ enum Asked {
     Message,
 }
 
-/// Carries out the words that follow the program's name, and flushes the output. Returns the status to end with. It is
-/// 0 where the name or message was written, and 1 where there is none. It is 2 for other words than one offset or
-/// `message`, with or without `--hex`. It is 3 where reading, writing or memory failed, and for nothing else. Why a
-/// name can't be read is on `output`; the other reasons are on `errors`.
+/// Carries out the words that follow the program's name, and flushes the output.
 ///
-/// With `--hex` the input is the message's octets in hexadecimal digits. Where it isn't, nothing is written.
+/// With `--hex` the input is the message's octets in hexadecimal digits. If it isn't, nothing is written. Returns the
+/// status to end with: 0 if the name or message was written.
+///
+/// # Errors
+///
+/// - 1 if there is no such name or message.
+/// - 2 for other words than one offset or `message`, with or without `--hex`. Nothing is then read, or written to
+///   `output`.
+/// - 3 if reading, writing or memory failed, and for nothing else.
+///
+/// Why a name can't be read is on `output`; the other reasons are on `errors`.
 pub fn run<R: Source, W: Sink, E: Write>(
     alloc: Global,
     words: &[&str],

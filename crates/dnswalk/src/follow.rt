@@ -136,8 +136,13 @@ fn write_counted<W: Sink, L: Ledger>(
     write_steps(message, offset, &mut table, output, &mut heads)
 }
 
-/// Writes a line for each label and pointer that reading the name at an offset comes to. The last of them is the root
-/// or what can't be read. Returns how many they are: at most 383.
+/// Writes a line for each label and pointer that reading the name at an offset comes to.
+///
+/// The last of them is the root or what can't be read. Returns how many they are: at most 383.
+///
+/// # Errors
+///
+/// Returns an error if writing failed.
 pub fn write_lines<W: Sink>(
     message: &[u8],
     offset: usize,

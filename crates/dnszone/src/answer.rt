@@ -22,7 +22,13 @@ fn digit_of(octet: u8) -> Option<u8>
     }
 }
 
-/// Returns the octets that digits are, two for each octet. `None` within where they aren't such digits.
+/// Returns the octets that digits are, two for each octet.
+///
+/// Returns `Ok(None)` if they aren't such digits.
+///
+/// # Errors
+///
+/// Returns an error if an allocation failed.
 pub fn octets_of(alloc: Global, digits: &str) -> Result<Option<Vec<u8>>, AllocError> {
     let mut octets = Vec::new(alloc);
     for pair in digits.as_bytes().chunks(2) {
@@ -49,7 +55,13 @@ fn put_digits(octets: &[u8], out: &mut Vec<u8>) -> Result<(), AllocError> {
     Ok(())
 }
 
-/// Returns the message that answers a query from a zone. `None` where no message is sent.
+/// Returns the message that answers a query from a zone.
+///
+/// Returns `Ok(None)` if no message is sent.
+///
+/// # Errors
+///
+/// Returns an error if an allocation failed.
 pub fn answer_to(
     alloc: Global,
     zone: &Zone,
@@ -69,8 +81,13 @@ pub fn answer_to(
     }
 }
 
-/// Appends the digits of the message that answers a query from a zone, and the end of the line. The line is empty
-/// where no message is sent.
+/// Appends the digits of the message that answers a query from a zone, and the end of the line.
+///
+/// The line is empty if no message is sent.
+///
+/// # Errors
+///
+/// Returns an error if an allocation failed.
 pub fn put_answer(
     alloc: Global,
     zone: &Zone,

@@ -36,7 +36,13 @@ fn query_for(
 }
 
 /// Appends the lines of the message that answers a question from a zone over a stream, as `dnswalk message` prints
-/// them. With `dnssec_ok` it is the answer to a query with the bit DO.
+/// them.
+///
+/// With `dnssec_ok` it is the answer to a query with the bit DO.
+///
+/// # Errors
+///
+/// Returns an error if an allocation failed.
 pub fn put_response(
     alloc: Global,
     zone: &Zone,

@@ -108,8 +108,9 @@ fn apex_of(alloc: Global, text: &[u8]) -> Result<(Owner, Class), TextFault> {
 ///
 /// # Errors
 ///
-/// `NoSoa` where each entry can be read and none is a SOA. `Load` where an entry up to the first SOA can't be read or
-/// is `$INCLUDE`, and else with the error of `load` of `domain_zonefile`.
+/// - `NoSoa` if each entry can be read and none is a SOA.
+/// - `Load` if an entry up to the first SOA can't be read or is `$INCLUDE`, and else with the error of `load` of
+///   `domain_zonefile`.
 pub fn zone_of(alloc: Global, text: &[u8]) -> Result<Zone, TextFault> {
     let (apex, class) = apex_of(alloc, text)?;
     match load(alloc, text, apex, class) {

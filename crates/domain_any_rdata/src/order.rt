@@ -47,10 +47,10 @@ impl<'m> AllRecordData<'m> {
     }
 }
 
-/// Data is equal exactly if the types, the classes and the octets of the canonical forms are equal.
+/// Data is equal exactly when the types, the classes and the octets of the canonical forms are equal.
 ///
-/// So names are compared ignoring ASCII case for the types of RFC 4034, 6.2 (as changed by RFC 6840, 5.1), and with
-/// their case for all other types, such as NSEC, SVCB and HTTPS.
+/// So names are compared ignoring ASCII case for the types of RFC 4034, 6.2 (as changed by RFC 6840, 5.1). For all
+/// other types, such as NSEC, SVCB and HTTPS, they are compared with their case.
 impl<'m> PartialEq for AllRecordData<'m> {
     ghost eq = { on data_key (pointwise ◌==◌) };
 
@@ -65,8 +65,8 @@ impl<'m> Eq for AllRecordData<'m> {
     ghost laws = { Prim.search (comparing, rules) };
 }
 
-/// The order of the types, then of the classes, and then of the octets of the canonical forms from the left, where a
-/// missing octet comes before any (RFC 4034, 6.3).
+/// The order of the types, then of the classes, and then of the octets of the canonical forms from the left. A missing
+/// octet comes before any (RFC 4034, 6.3).
 impl<'m> CanonicalOrd<AllRecordData<'m>> for AllRecordData<'m> {
     ghost value_order = { on data_key key_order };
 
@@ -92,8 +92,8 @@ impl<'m> Hash for AllRecordData<'m> {
     }
 }
 
-/// The law that data is equal exactly if neither comes first: then the order of what they are compared by is `Equal`.
-/// It returns nothing.
+/// The law that data is equal exactly when neither comes first: then the order of what they are compared by is
+/// `Equal`. It returns nothing.
 pub fn equality_law()
     ensures { (a b : List ℕ) → is_eq (key_order a b) ≡ pointwise ◌==◌ a b }
 {}

@@ -78,7 +78,11 @@ impl RecordData for OwnedRecordData {
     }
 }
 
-/// Names are written uncompressed, and keep their case. Only data with octets can fail: if an allocation failed.
+/// Names are written uncompressed, and keep their case.
+///
+/// # Errors
+///
+/// Only data with octets can fail: if an allocation failed.
 impl<'m> FlattenInto<OwnedRecordData> for AllRecordData<'m> {
     ghost use Rattle.domain_any_rdata.specs.AllData.{data_parts};
     ghost use Rattle.domain_any_rdata.specs.Owned.{IsOwnedOf};

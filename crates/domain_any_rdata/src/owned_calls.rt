@@ -62,7 +62,7 @@ impl CanonicalRecordData for OwnedRecordData {
     }
 }
 
-/// Data is equal exactly if the types, the classes and the octets of the canonical forms are equal.
+/// Data is equal exactly when the types, the classes and the octets of the canonical forms are equal.
 impl PartialEq for OwnedRecordData {
     ghost eq = { on owned_key (pointwise ◌==◌) };
 

@@ -9,7 +9,7 @@ use crate::all::AllRecordData;
 use domain_descriptor::Rdata;
 use domain_fields::ReadBackData;
 
-/// The law that the octets are exactly the fields. It passes over each field and returns nothing.
+/// The law that the octets are exactly the fields. It skips each field and returns nothing.
 #[tactic(auto, using(crate::proofs::Passing::none_passed, crate::proofs::Passing::one_passed, crate::proofs::Passing::all_passed))]
 fn are_fields(rdata: &Rdata<'_>)
     ensures { AreData (rdata_kinds rdata.now) (rdata_message rdata.now) (rdata_begin rdata.now) }

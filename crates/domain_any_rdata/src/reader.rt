@@ -61,7 +61,7 @@ impl<'m> OctetReader<'m> {
         }
     }
 
-    /// Reads fields until octets are in hand. Returns `false` exactly if no octet remains.
+    /// Reads fields until octets are in hand. Returns `false` exactly when no octet remains.
     #[tactic(auto, using(crate::proofs::Cutting::field_taken, crate::proofs::Cutting::nothing_remains, crate::proofs::Cutting::none_of, crate::proofs::Named::part_taken, crate::proofs::Named::octets_part, crate::proofs::Named::none_left))]
     pub(crate) fn fill(&mut self) -> bool
         ensures same { remaining_octets self.new ≡ remaining_octets self.old }

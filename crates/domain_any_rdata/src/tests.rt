@@ -172,7 +172,7 @@ fn longest_shown(rt: HostRuntime) {
     }
 }
 
-/// The class tells which fields data of A has (RFC 1035, 3.4.1).
+/// The class decides which fields data of A has (RFC 1035, 3.4.1).
 #[test]
 fn classes(rt: HostRuntime) {
     let a = Rtype::from_int(1);

@@ -38,9 +38,14 @@ impl<B: OctetsBuilder + OctetsMut> LabelsBuilder<B> {
 
     /// Ends the open label at a plain dot, and pushes the octet of any other symbol.
     ///
-    /// `EmptyLabel` at a dot where no label is open; a dot elsewhere is never refused. `BinaryLabel` at `\[` where no
-    /// label is open. `BadSymbol` at a character that stands for no octet. Otherwise the errors of `push`. A refused
-    /// call changes nothing.
+    /// # Errors
+    ///
+    /// - `EmptyLabel` at a dot if no label is open. A dot elsewhere is never refused.
+    /// - `BinaryLabel` at `\[` if no label is open.
+    /// - `BadSymbol` at a character that stands for no octet.
+    /// - Otherwise the errors of [`push`](LabelsBuilder::push).
+    ///
+    /// What was built is then unchanged.
     pub fn push_symbol(&mut self, symbol: Symbol) -> Result<(), FromStrError>
         ensures takes { AddsSymbol B.limit self.old (symbol_in_name symbol) result self.new }
         ensures capacity { self.old.capacity ≤ self.new.capacity }
@@ -64,10 +69,14 @@ impl<B: OctetsBuilder + OctetsMut> LabelsBuilder<B> {
         Ok(())
     }
 
-    /// Pushes the symbols of a text in turn, up to the first that is refused. They continue an open label.
+    /// Pushes the symbols of a text in turn, up to the first that is refused.
     ///
-    /// The error is that of the first symbol that is refused, or of a broken escape. What the symbols
-    /// before it made stays.
+    /// They continue an open label.
+    ///
+    /// # Errors
+    ///
+    /// Returns the error of the first symbol that is refused, or of a broken escape. What the symbols before it made
+    /// is kept.
     pub fn append_chars<I: Iterator<Item = char> + Drop>(
         &mut self,
         chars: I,
@@ -80,7 +89,12 @@ impl<B: OctetsBuilder + OctetsMut> LabelsBuilder<B> {
         self.append_items(Symbols::new(chars))
     }
 
-    /// Pushes symbols in turn, up to the first that is refused, as `append_chars` does those of a text.
+    /// Pushes symbols in turn, up to the first that is refused, as [`append_chars`](LabelsBuilder::append_chars) does
+    /// those of a text.
+    ///
+    /// # Errors
+    ///
+    /// Returns the error of the first symbol that is refused. What the symbols before it made is kept.
     pub fn append_symbols<I: Iterator<Item = Symbol> + Drop>(
         &mut self,
         symbols: I,
@@ -93,7 +107,12 @@ impl<B: OctetsBuilder + OctetsMut> LabelsBuilder<B> {
         self.append_items(WholeSymbols::new(symbols))
     }
 
-    /// Pushes the symbols of a text in turn, as `append_chars` does those of its characters.
+    /// Pushes the symbols of a text in turn, as [`append_chars`](LabelsBuilder::append_chars) does those of its
+    /// characters.
+    ///
+    /// # Errors
+    ///
+    /// Returns the errors of `append_chars`. What the symbols before the error made is kept.
     pub fn append_str(&mut self, text: &str) -> Result<(), FromStrError>
         ensures takes { AddsText B.limit (chars text.now) self.old result self.new }
         ensures capacity { self.old.capacity ≤ self.new.capacity }

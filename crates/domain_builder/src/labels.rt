@@ -52,7 +52,11 @@ impl<B: EmptyBuilder + OctetsMut> LabelsBuilder<B> {
         }
     }
 
-    /// Makes an empty builder that has room for `capacity` octets, where no room is fixed.
+    /// Makes an empty builder that has room for `capacity` octets, unless the type has a fixed room.
+    ///
+    /// # Errors
+    ///
+    /// Without a fixed room, returns `ShortBuf` if an allocation failed. For no octets there is none.
     pub fn with_capacity(alloc: Global, capacity: usize) -> Result<Self, ShortBuf>
         ensures built { IfOk result (λ made. made.built ≡ empty_state) }
         ensures room { IfSome B.ROOM (λ n. IfOk result (λ made. made.capacity ≡ n)) }
@@ -172,6 +176,15 @@ impl<B: OctetsBuilder + OctetsMut> LabelsBuilder<B> {
     }
 
     /// Adds an octet to the open label, or opens one.
+    ///
+    /// # Errors
+    ///
+    /// Returns the first of these that holds:
+    /// - `LongName` if there would be more than 254 octets before the root;
+    /// - `LongLabel` if the label would have more than 63 octets;
+    /// - `ShortBuf` if the octet doesn't fit or an allocation failed.
+    ///
+    /// What was built is then unchanged.
     #[inline(always)]
     pub fn push(&mut self, ch: u8) -> Result<(), PushError>
         ensures made { OnOk result (self.new.built ≡ pushed self.old.built (ch ∷ [])) }
@@ -188,7 +201,18 @@ impl<B: OctetsBuilder + OctetsMut> LabelsBuilder<B> {
         self.add(&[ch])
     }
 
-    /// Adds octets to the open label, or opens one. An empty slice adds and opens nothing.
+    /// Adds octets to the open label, or opens one.
+    ///
+    /// An empty slice adds and opens nothing, and never fails.
+    ///
+    /// # Errors
+    ///
+    /// Returns the first of these that holds:
+    /// - `LongLabel` if the label would have more than 63 octets;
+    /// - `LongName` if there would be more than 254 octets before the root;
+    /// - `ShortBuf` if the octets don't fit or an allocation failed.
+    ///
+    /// What was built is then unchanged.
     #[tactic(auto, using(crate::proofs::Building::nothing_pushed))]
     #[inline(always)]
     pub fn append_slice(&mut self, slice: &[u8]) -> Result<(), PushError>
@@ -223,7 +247,18 @@ impl<B: OctetsBuilder + OctetsMut> LabelsBuilder<B> {
         self.head = None;
     }
 
-    /// Finishes the open label and adds a label. An empty slice adds no label.
+    /// Finishes the open label and adds a label.
+    ///
+    /// An empty slice adds no label, and never fails.
+    ///
+    /// # Errors
+    ///
+    /// Returns the first of these that holds:
+    /// - `LongLabel` if the slice has more than 63 octets;
+    /// - `LongName` if there would be more than 254 octets before the root;
+    /// - `ShortBuf` if the octets don't fit or an allocation failed.
+    ///
+    /// What was built is then unchanged.
     #[tactic(auto, using(crate::proofs::Building::size_labelled, crate::proofs::Building::labelled_nothing))]
     #[inline(always)]
     pub fn append_label(&mut self, slice: &[u8]) -> Result<(), PushError>
@@ -271,6 +306,14 @@ impl<B: OctetsBuilder + OctetsMut> LabelsBuilder<B> {
     }
 
     /// Finishes the open label and adds a label of a number's decimal digits.
+    ///
+    /// # Errors
+    ///
+    /// Returns the first of these that holds:
+    /// - `LongName` if there would be more than 254 octets before the root;
+    /// - `ShortBuf` if the octets don't fit or an allocation failed.
+    ///
+    /// What was built is then unchanged.
     pub fn append_dec_u8_label(&mut self, value: u8) -> Result<(), PushError>
         ensures made { OnOk result (self.new.built ≡ labelled self.old.built (decimal value)) }
         ensures unchanged { OnErr result (self.new.built ≡ self.old.built) }
@@ -291,7 +334,15 @@ impl<B: OctetsBuilder + OctetsMut> LabelsBuilder<B> {
         self.append_label(&[high, middle, low])
     }
 
-    /// Finishes the open label and adds a label of one upper case digit, that of the lowest four bits.
+    /// Finishes the open label and adds a label of one upper case hexadecimal digit, that of the lowest four bits.
+    ///
+    /// # Errors
+    ///
+    /// Returns the first of these that holds:
+    /// - `LongName` if there would be more than 254 octets before the root;
+    /// - `ShortBuf` if the octets don't fit or an allocation failed.
+    ///
+    /// What was built is then unchanged.
     pub fn append_hex_digit_label(&mut self, nibble: u8) -> Result<(), PushError>
         ensures made { OnOk result (self.new.built ≡ labelled self.old.built (hex_label nibble)) }
         ensures unchanged { OnErr result (self.new.built ≡ self.old.built) }
@@ -301,8 +352,17 @@ impl<B: OctetsBuilder + OctetsMut> LabelsBuilder<B> {
         self.append_label(&[hex_character(nibble)])
     }
 
-    /// Finishes the open label and adds the labels of a relative name of any kind, in one piece that is
-    /// appended once. For a name without labels it never fails.
+    /// Finishes the open label and adds the labels of a relative name of any kind.
+    ///
+    /// The labels are appended at once. For a name without labels the call never fails.
+    ///
+    /// # Errors
+    ///
+    /// Returns the first of these that holds:
+    /// - `LongName` if there would be more than 254 octets before the root;
+    /// - `ShortBuf` if the octets don't fit or an allocation failed.
+    ///
+    /// What was built is then unchanged.
     #[tactic(auto, using(crate::proofs::Building::size_named))]
     pub fn append_name<'a, N: RelativeLabels<'a>>(
         &mut self,
@@ -323,6 +383,16 @@ impl<B: OctetsBuilder + OctetsMut> LabelsBuilder<B> {
     }
 
     /// Finishes the open label and adds the labels whose wire format the octets are.
+    ///
+    /// Without octets it never fails.
+    ///
+    /// # Errors
+    ///
+    /// Returns the first of these that holds:
+    /// - `LongName` if there would be more than 254 octets before the root;
+    /// - `ShortBuf` if the octets don't fit or an allocation failed.
+    ///
+    /// What was built is then unchanged.
     #[tactic(auto, using(crate::proofs::Building::size_named_wire))]
     pub fn append_wire(&mut self, slice: &[u8]) -> Result<(), PushNameError>
         requires labels { IsRelativeWire slice.now }
@@ -389,8 +459,12 @@ where
         self.into_builder().freeze()
     }
 
-    /// Finishes the open label and gives the labels, and after them those of an absolute name whose wire
-    /// format is `origin`, in their wire format.
+    /// Finishes the open label, appends an absolute name whose wire format is `origin`, and returns the octets of
+    /// both.
+    ///
+    /// # Errors
+    ///
+    /// Returns `ShortBuf` only if they don't fit or an allocation failed.
     #[inline(always)]
     pub fn finish_with(self, origin: &[u8]) -> Result<B::Octets, ShortBuf>
         requires origin { IsAbsoluteWire origin.now }
@@ -404,8 +478,15 @@ where
         Ok(builder.freeze())
     }
 
-    /// Finishes the open label and gives the labels, and after them those of an absolute name of any kind,
-    /// in one piece that is appended once.
+    /// Finishes the open label, appends the labels of an absolute name of any kind, and returns the octets of all.
+    ///
+    /// The labels are appended at once.
+    ///
+    /// # Errors
+    ///
+    /// Returns the first of these that holds:
+    /// - `LongName` if there would be more than 255 octets;
+    /// - `ShortBuf` if the octets don't fit or an allocation failed.
     pub fn append_origin<'a, N: AbsoluteLabels<'a>>(
         self,
         origin: &'a N,
@@ -439,7 +520,11 @@ where
 }
 
 impl LabelsBuilder<Vec<u8>> {
-    /// The same over new octets. `ShortBuf` only where memory was refused, which a copy of nothing doesn't need.
+    /// Returns the same builder over new octets.
+    ///
+    /// # Errors
+    ///
+    /// Returns `ShortBuf` only if an allocation failed. A copy of an empty builder makes none.
     #[tactic(auto, using(crate::proofs::Building::size_shown))]
     pub fn clone(&self, alloc: Global) -> Result<Self, ShortBuf>
         ensures built { IfOk result (λ copy. copy.built ≡ self.now.built) }
@@ -464,7 +549,11 @@ impl<const N: usize> LabelsBuilder<ArrayVec<u8, N>> {
         }
     }
 
-    /// The same over new octets. It can't be refused.
+    /// Returns the same builder over new octets.
+    ///
+    /// # Errors
+    ///
+    /// This call never fails.
     pub fn clone(&self, alloc: Global) -> Result<Self, ShortBuf>
         ensures built { IfOk result (λ copy. copy.built ≡ self.now.built) }
         ensures made { IsOk result }
@@ -529,6 +618,10 @@ fn append_pair<B: OctetsBuilder + OctetsMut>(
 }
 
 /// Appends an absolute name after a relative one, both in their wire format, or nothing.
+///
+/// # Errors
+///
+/// Returns `ShortBuf` only if both together exceed the capacity. The octets are then unchanged.
 #[inline(always)]
 pub fn append_absolute<B: OctetsBuilder>(builder: &mut B, origin: &[u8]) -> Result<(), ShortBuf>
     requires relative { IsRelativeWire (B.octets builder.old) }

@@ -13,7 +13,13 @@ use domain_wire::net::IpAddr;
 use octseq::{EmptyBuilder, FromBuilder, OctetsBuilder, ShortBuf};
 use std::alloc::Global;
 
-/// The wire format of the name under which an address is looked up, in one piece that is appended once.
+/// Returns the wire format of the name under which an address is looked up.
+///
+/// The octets are appended at once.
+///
+/// # Errors
+///
+/// Returns `ShortBuf` only if they don't fit or an allocation failed.
 pub fn reverse_octets<Octs: FromBuilder + Drop>(
     alloc: Global,
     addr: IpAddr,

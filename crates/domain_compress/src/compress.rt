@@ -204,7 +204,12 @@ impl<T: Composer> OctetsBuilder for CompressComposer<T> {
     ghost extends = { λ c s d. (T.octets d.target ≡ T.octets c.target ++ s)
         × (remembered_labels d ≡ remembered_labels c) };
 
-    /// Appends all of the octets, or none, as the target does. The offsets stay.
+    /// Appends all of the octets, or none, like the target, and leaves the offsets unchanged.
+    ///
+    /// # Errors
+    ///
+    /// Returns the target's error only if the octets exceed its spare capacity. The octets of the target are then
+    /// unchanged.
     fn append_slice(&mut self, slice: &[u8]) -> Result<(), T::AppendError>
         ensures ok { OnOk result (octets_of self.new ≡ octets_of self.old ++ slice.now) }
         ensures unchanged { OnErr result (octets_of self.new ≡ octets_of self.old) }
@@ -249,12 +254,15 @@ impl<T: Composer> Composer for CompressComposer<T> {
     ghost appends = { λ c ls d. AddsCompressed (T.octets c.target) (remembered_labels c) ls
         (T.octets d.target) (remembered_labels d) };
 
-    /// Appends the labels before the longest suffix of the name that stands at an offset that is remembered, and a
-    /// pointer to the first such offset; or the wire format. The offsets of the labels that were written are
-    /// remembered.
+    /// Appends the labels before the longest suffix of the name that is at a remembered offset, and a pointer to the
+    /// first such offset; or the wire format.
     ///
-    /// It is refused only where these octets exceed the spare capacity of the target. Octets and offsets are
-    /// then as before.
+    /// The offsets of the labels that were written are remembered.
+    ///
+    /// # Errors
+    ///
+    /// Returns the target's error only if these octets exceed its spare capacity. Octets and offsets are then
+    /// unchanged.
     fn append_flat_name(&mut self, name: &[u8]) -> Result<(), T::AppendError>
         requires { IsAbsoluteWire name.now }
         ensures appends { OnOk result (WritesCompressed name.now self.old self.new) }

@@ -69,7 +69,7 @@ fn head_at(octets: &[u8], offset: usize) -> Result<Head, NameFault>
     head_at_with::<Brand>(octets, offset, Blank::new(1))
 }
 
-/// The same over a count of heads, of which no clause tells.
+/// The same over a count of heads, which no clause mentions.
 #[inline(always)]
 fn head_at_with<L: Ledger>(octets: &[u8], offset: usize, blank: Blank) -> Result<Head, NameFault>
     requires ledger { blank.name ≡ L.name }

@@ -96,7 +96,7 @@ pub(crate) fn hash_all(written: &mut ArrayVec<Written, 128>, octets: &[u8]) -> b
     stand
 }
 
-/// How many of the entries are left by a cut to `len` octets, where these are the first ones.
+/// How many of the entries remain after a cut to `len` octets, if these are the first ones.
 fn first_left(written: &[Written], len: usize) -> Option<usize>
     ensures some { IfSome result (LeavesFirst len written.now) }
 {

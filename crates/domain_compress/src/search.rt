@@ -34,7 +34,7 @@ pub(crate) fn pointers_at(octets: &[u8], offset: usize, name: &[u8]) -> Option<u
     pointers_at_with::<Brand>(octets, offset, name, Blank::new(1))
 }
 
-/// The same over a count of heads, of which no clause tells.
+/// The same over a count of heads, which no clause mentions.
 fn pointers_at_with<L: Ledger>(
     octets: &[u8],
     offset: usize,
@@ -130,7 +130,7 @@ fn wire_len_at(octets: &[u8], offset: usize) -> Option<usize>
     wire_len_at_with::<Brand>(octets, offset, Blank::new(1))
 }
 
-/// The same over a count of heads, of which no clause tells.
+/// The same over a count of heads, which no clause mentions.
 fn wire_len_at_with<L: Ledger>(octets: &[u8], offset: usize, blank: Blank) -> Option<usize>
     requires ledger { blank.name ≡ L.name }
     requires parts { blank.parts ≡ L.parts }

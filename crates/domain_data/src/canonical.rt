@@ -15,8 +15,8 @@ use std::hash::Hasher;
 
 /// Data is equal exactly where the octets of the canonical forms are equal.
 ///
-/// So names are compared ignoring ASCII case for the types of RFC 4034, 6.2 (as changed by RFC 6840, 5.1), and with
-/// their case for all other types, such as NSEC.
+/// So names are compared ignoring ASCII case for the types of RFC 4034, 6.2 (as changed by RFC 6840, 5.1). For all
+/// other types, such as NSEC, they are compared with their case.
 impl<const TYPE: u16, F: OrderedLast> PartialEq for FieldsData<TYPE, F> {
     ghost use Rattle.domain_data.specs.Views.{fields_key};
 

@@ -19,12 +19,15 @@ impl<const TYPE: u16, F> FieldsData<TYPE, F> {
     ghost use Rattle.domain_data.specs.Views.{fields_of};
     ghost use Rattle.domain_data.specs.Parsed.{HasAll, LacksAll};
 
-    /// Reads the fields, which must take all remaining octets. This is `parse_rdata` of each type, and of one with
-    /// fields of its own.
+    /// Reads the fields, which must take all remaining octets.
     ///
-    /// Returns `None` exactly when the type of the record is another one. `None` and an error leave the parser
-    /// unchanged. The error is that of the first field that isn't present, or "trailing data" if octets remain after
-    /// the last field.
+    /// This is `parse_rdata` of each type, and of one with fields of its own. It returns `None` exactly when the type
+    /// of the record is another one. The parser is then unchanged.
+    ///
+    /// # Errors
+    ///
+    /// Returns the error of the first field that isn't present, or "trailing data" if octets remain after the last
+    /// field. The parser is then unchanged.
     pub fn read<'a, E: FieldError>(
         rtype: Rtype,
         parser: &mut Parser<'a>,

@@ -260,7 +260,7 @@ impl<N> Soa<N> {
         &self.fields.rest.first.name
     }
 
-    /// The version of the zone, by the order of RFC 1982: `Serial::partial_cmp` tells which of two is later.
+    /// The version of the zone, by the order of RFC 1982: `Serial::partial_cmp` returns which of two is later.
     pub fn serial(&self) -> Serial
         ensures { result.0 ≡ soa_serial self.now }
     {

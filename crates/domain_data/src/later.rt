@@ -4,7 +4,7 @@ ghost use Rattle.std.specs.Prelude.{◌≡◌};
 use crate::fields::FieldsData;
 use domain_fields::{Sequence, UncompressedNameField};
 
-/// The mailbox of who is responsible for the owner, and where TXT records tell more (RFC 1183, 2.2).
+/// The mailbox of the person responsible for the owner, and where TXT records say more (RFC 1183, 2.2).
 pub type Rp<N> = FieldsData<17, Sequence<UncompressedNameField<N>, UncompressedNameField<N>>>;
 
 /// A server of an AFS cell, or of DCE, and which of them (RFC 1183, 1).
@@ -46,7 +46,7 @@ impl<N> Rp<N> {
         &self.fields.first.name
     }
 
-    /// The name whose TXT records tell more; the root where there is none.
+    /// The name whose TXT records say more; the root if there is none.
     pub fn txt(&self) -> &N
         ensures { result.now ≡ (fields_of self.now).rest.name }
     {

@@ -1,4 +1,4 @@
-//! Data of the types of RFC 1035 that tell of mailboxes (3.3.3 to 3.3.8): names in it may be compressed.
+//! Data of the types of RFC 1035 about mailboxes (3.3.3 to 3.3.8): names in it may be compressed.
 ghost use Rattle.std.specs.Prelude.{◌≡◌};
 
 use crate::fields::FieldsData;

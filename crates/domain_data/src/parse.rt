@@ -19,7 +19,11 @@ use domain_wire::ParseError;
 use domain_wire::net::{Ipv4Addr, Ipv6Addr};
 use octseq::Parser;
 
-/// A name: CNAME, NS, PTR, MB, MD, MF, MG and MR. Octets left after it are a form error "trailing data".
+/// A name: CNAME, NS, PTR, MB, MD, MF, MG and MR.
+///
+/// # Errors
+///
+/// Returns a form error "trailing data" if octets follow it.
 impl<'a, const TYPE: u16> ParseRecordData<'a>
     for FieldsData<TYPE, NameField<ParsedName<&'a [u8]>>> {
     ghost use Rattle.domain_data.specs.Shapes.{name_data};
@@ -41,7 +45,11 @@ impl<'a, const TYPE: u16> ParseRecordData<'a>
     ghost lawful = { λ _. name_data };
 }
 
-/// A name that is never compressed: DNAME. Octets left after it are a form error "trailing data".
+/// A name that is never compressed: DNAME.
+///
+/// # Errors
+///
+/// Returns a form error "trailing data" if octets follow it.
 impl<'a, const TYPE: u16> ParseRecordData<'a>
     for FieldsData<TYPE, UncompressedNameField<ParsedName<&'a [u8]>>> {
     ghost use Rattle.domain_data.specs.Shapes.{name_data};
@@ -63,7 +71,11 @@ impl<'a, const TYPE: u16> ParseRecordData<'a>
     ghost lawful = { λ _. name_data };
 }
 
-/// A number of 16 bits and a name: MX. Octets left after it are a form error "trailing data".
+/// A number of 16 bits and a name: MX.
+///
+/// # Errors
+///
+/// Returns a form error "trailing data" if octets follow it.
 impl<'a, const TYPE: u16> ParseRecordData<'a>
     for FieldsData<TYPE, Sequence<u16, NameField<ParsedName<&'a [u8]>>>> {
     ghost use Rattle.domain_data.specs.Shapes.{NumberNameAt, NoNumberName, number_name_data};
@@ -85,8 +97,11 @@ impl<'a, const TYPE: u16> ParseRecordData<'a>
     ghost lawful = { λ _. number_name_data };
 }
 
-/// A number of 16 bits and a name that is never compressed: KX, AFSDB and RT. Octets left
-/// after it are a form error "trailing data".
+/// A number of 16 bits and a name that is never compressed: KX, AFSDB and RT.
+///
+/// # Errors
+///
+/// Returns a form error "trailing data" if octets follow it.
 impl<'a, const TYPE: u16> ParseRecordData<'a>
     for FieldsData<TYPE, Sequence<u16, UncompressedNameField<ParsedName<&'a [u8]>>>> {
     ghost use Rattle.domain_data.specs.Shapes.{NumberNameAt, NoNumberName, number_name_data};
@@ -108,8 +123,11 @@ impl<'a, const TYPE: u16> ParseRecordData<'a>
     ghost lawful = { λ _. number_name_data };
 }
 
-/// Three numbers of 16 bits and a name that is never compressed: SRV. Octets left after it are a form error "trailing
-/// data".
+/// Three numbers of 16 bits and a name that is never compressed: SRV.
+///
+/// # Errors
+///
+/// Returns a form error "trailing data" if octets follow it.
 impl<'a, const TYPE: u16> ParseRecordData<'a>
     for FieldsData<
         TYPE,
@@ -136,7 +154,11 @@ impl<'a, const TYPE: u16> ParseRecordData<'a>
     ghost lawful = { λ _. numbers_name_data };
 }
 
-/// Two names and five numbers of 32 bits: SOA. Octets left after it are a form error "trailing data".
+/// Two names and five numbers of 32 bits: SOA.
+///
+/// # Errors
+///
+/// Returns a form error "trailing data" if octets follow it.
 impl<'a, const TYPE: u16> ParseRecordData<'a>
     for FieldsData<
         TYPE,
@@ -186,8 +208,11 @@ impl<'a, const TYPE: u16> ParseRecordData<'a>
     ghost lawful = { λ _. names_numbers_data };
 }
 
-/// Two names: MINFO. Octets left after them are a form error
-/// "trailing data".
+/// Two names: MINFO.
+///
+/// # Errors
+///
+/// Returns a form error "trailing data" if octets follow them.
 impl<'a, const TYPE: u16> ParseRecordData<'a>
     for FieldsData<
         TYPE,
@@ -213,8 +238,11 @@ impl<'a, const TYPE: u16> ParseRecordData<'a>
     ghost lawful = { λ _. names_data };
 }
 
-/// Two names that are never compressed: RP. Octets left after them are a form error
-/// "trailing data".
+/// Two names that are never compressed: RP.
+///
+/// # Errors
+///
+/// Returns a form error "trailing data" if octets follow them.
 impl<'a, const TYPE: u16> ParseRecordData<'a>
     for FieldsData<
         TYPE,
@@ -243,8 +271,11 @@ impl<'a, const TYPE: u16> ParseRecordData<'a>
     ghost lawful = { λ _. names_data };
 }
 
-/// A number of 16 bits and two names that are never compressed: PX. Octets left after them are a form error
-/// "trailing data".
+/// A number of 16 bits and two names that are never compressed: PX.
+///
+/// # Errors
+///
+/// Returns a form error "trailing data" if octets follow them.
 impl<'a, const TYPE: u16> ParseRecordData<'a>
     for FieldsData<
         TYPE,
@@ -282,7 +313,11 @@ impl<'a, const TYPE: u16> ParseRecordData<'a>
     ghost lawful = { λ _. number_names_data };
 }
 
-/// An IPv4 address: A. Octets left after it are a form error "trailing data".
+/// An IPv4 address: A.
+///
+/// # Errors
+///
+/// Returns a form error "trailing data" if octets follow it.
 impl<'a, const TYPE: u16> ParseRecordData<'a> for FieldsData<TYPE, Ipv4Addr> {
     ghost use Rattle.domain_data.specs.Shapes.{ipv4_data};
 
@@ -303,7 +338,11 @@ impl<'a, const TYPE: u16> ParseRecordData<'a> for FieldsData<TYPE, Ipv4Addr> {
     ghost lawful = { λ _. ipv4_data };
 }
 
-/// An IPv6 address: AAAA. Octets left after it are a form error "trailing data".
+/// An IPv6 address: AAAA.
+///
+/// # Errors
+///
+/// Returns a form error "trailing data" if octets follow it.
 impl<'a, const TYPE: u16> ParseRecordData<'a> for FieldsData<TYPE, Ipv6Addr> {
     ghost use Rattle.domain_data.specs.Shapes.{ipv6_data};
 

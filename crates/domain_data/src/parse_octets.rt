@@ -18,7 +18,11 @@ use domain_strings::{CharString, LastOctets, Tag};
 use domain_wire::ParseError;
 use octseq::Parser;
 
-/// Two strings: HINFO. Octets left after them are a form error "trailing data".
+/// Two strings: HINFO.
+///
+/// # Errors
+///
+/// Returns a form error "trailing data" if octets follow them.
 impl<'a, const TYPE: u16> ParseRecordData<'a>
     for FieldsData<TYPE, Sequence<CharString<&'a [u8]>, CharString<&'a [u8]>>> {
     ghost use Rattle.domain_data.specs.OctetShapes.{StringsAt, NoStrings, strings_data};
@@ -40,8 +44,11 @@ impl<'a, const TYPE: u16> ParseRecordData<'a>
     ghost lawful = { λ _. strings_data };
 }
 
-/// Two numbers of 16 bits, three strings, and a name that is never compressed: NAPTR. Octets left after it are a form
-/// error "trailing data".
+/// Two numbers of 16 bits, three strings, and a name that is never compressed: NAPTR.
+///
+/// # Errors
+///
+/// Returns a form error "trailing data" if octets follow it.
 impl<'a, const TYPE: u16> ParseRecordData<'a>
     for FieldsData<
         TYPE,
@@ -93,7 +100,11 @@ impl<'a, const TYPE: u16> ParseRecordData<'a>
     ghost lawful = { λ _. rule_data };
 }
 
-/// Two numbers of 8 bits and octets: SSHFP. More than 65,535 octets are a form error "record data too long".
+/// Two numbers of 8 bits and octets: SSHFP.
+///
+/// # Errors
+///
+/// Returns a form error "record data too long" if there are more than 65,535 octets.
 impl<'a, const TYPE: u16, const TEXT: u8> ParseRecordData<'a>
     for FieldsData<TYPE, Sequence<u8, Sequence<u8, LastOctets<TEXT, &'a [u8]>>>> {
     ghost use Rattle.domain_data.specs.OctetShapes.{FingerprintAt, NoFingerprint, fingerprint_data};
@@ -117,8 +128,11 @@ impl<'a, const TYPE: u16, const TEXT: u8> ParseRecordData<'a>
     ghost lawful = { λ _. fingerprint_data };
 }
 
-/// A number of 16 bits, two of 8 bits and octets: DS and DNSKEY. More than 65,535 octets are a form error "record data
-/// too long".
+/// A number of 16 bits, two of 8 bits and octets: DS and DNSKEY.
+///
+/// # Errors
+///
+/// Returns a form error "record data too long" if there are more than 65,535 octets.
 impl<'a, const TYPE: u16, const TEXT: u8> ParseRecordData<'a>
     for FieldsData<TYPE, Sequence<u16, Sequence<u8, Sequence<u8, LastOctets<TEXT, &'a [u8]>>>>> {
     ghost use Rattle.domain_data.specs.OctetShapes.{KeyAt, NoKey, key_data};
@@ -146,7 +160,11 @@ impl<'a, const TYPE: u16, const TEXT: u8> ParseRecordData<'a>
     ghost lawful = { λ _. key_data };
 }
 
-/// Three numbers of 8 bits and octets: TLSA. More than 65,535 octets are a form error "record data too long".
+/// Three numbers of 8 bits and octets: TLSA.
+///
+/// # Errors
+///
+/// Returns a form error "record data too long" if there are more than 65,535 octets.
 impl<'a, const TYPE: u16, const TEXT: u8> ParseRecordData<'a>
     for FieldsData<TYPE, Sequence<u8, Sequence<u8, Sequence<u8, LastOctets<TEXT, &'a [u8]>>>>> {
     ghost use Rattle.domain_data.specs.OctetShapes.{AssociationAt, NoAssociation, association_data};
@@ -175,8 +193,12 @@ impl<'a, const TYPE: u16, const TEXT: u8> ParseRecordData<'a>
     ghost lawful = { λ _. association_data };
 }
 
-/// A number of 8 bits, a tag and octets: CAA. A form error "invalid tag" where the tag has other octets than letters
-/// and digits, and "record data too long" of more than 65,535 octets after it.
+/// A number of 8 bits, a tag and octets: CAA.
+///
+/// # Errors
+///
+/// Returns a form error "invalid tag" if the tag has other octets than letters and digits, and "record data too long"
+/// if there are more than 65,535 octets after it.
 impl<'a, const TYPE: u16, const TEXT: u8> ParseRecordData<'a>
     for FieldsData<TYPE, Sequence<u8, Sequence<Tag<&'a [u8]>, LastOctets<TEXT, &'a [u8]>>>> {
     ghost use Rattle.domain_data.specs.OctetShapes.{PropertyAt, NoProperty, property_data};
@@ -200,7 +222,11 @@ impl<'a, const TYPE: u16, const TEXT: u8> ParseRecordData<'a>
 }
 
 /// A type, two numbers of 8 bits, one of 32 bits, two times, one of 16 bits, a name that is never compressed, and
-/// octets: RRSIG. More than 65,535 octets after the name are a form error "record data too long".
+/// octets: RRSIG.
+///
+/// # Errors
+///
+/// Returns a form error "record data too long" if there are more than 65,535 octets after the name.
 impl<'a, const TYPE: u16, const TEXT: u8> ParseRecordData<'a>
     for FieldsData<
         TYPE,
@@ -275,8 +301,12 @@ impl<'a, const TYPE: u16, const TEXT: u8> ParseRecordData<'a>
     ghost lawful = { λ _. signature_data };
 }
 
-/// A name that is never compressed, and bitmaps of types: NSEC. Bitmaps that are none are "windows of types out of
-/// order", "invalid length of a type bitmap" or `ShortInput`.
+/// A name that is never compressed, and bitmaps of types: NSEC.
+///
+/// # Errors
+///
+/// For bitmaps that are none, returns "windows of types out of order", "invalid length of a type bitmap" or
+/// `ShortInput`.
 impl<'a, const TYPE: u16> ParseRecordData<'a>
     for FieldsData<
         TYPE,

@@ -18,13 +18,14 @@ pub fn known_fields(rtype: u16, class: u16) -> &'static [FieldKind]
     }
 }
 
-/// Tests that the octets from `begin` to the end of the message are data of this type in this class: its fields one
-/// after another, and no octet more.
+/// Tests that the octets from `begin` to the end of the message are data of this type in this class.
+///
+/// They must be its fields one after another, and no octet more.
 ///
 /// # Errors
 ///
-/// The first error from the left: that of [`field_end`](crate::field_end) at the first field that isn't there, or
-/// `TrailingData` where octets are left after the last field.
+/// Returns the first error from the left: that of [`field_end`](crate::field_end) at the first field that is missing,
+/// or `TrailingData` if octets follow the last field.
 #[tactic(auto, using(crate::proofs::Steps::whole_data, crate::proofs::Steps::too_much, crate::proofs::Steps::lacks_field))]
 pub fn check_data(rtype: u16, class: u16, message: &[u8], begin: usize) -> Result<(), DataFault>
     requires { begin ≤ length message.now }

@@ -19,6 +19,6 @@ pub enum DataFault {
     BitmapLength,
     /// The key of a service parameter isn't more than that of the one before it (RFC 9460, 2.2).
     KeyOrder,
-    /// Octets are left after the last field.
+    /// Octets follow the last field.
     TrailingData,
 }

@@ -105,18 +105,18 @@ fn form_end(form: FieldForm, message: &[u8], at: usize) -> Result<usize, DataFau
     }
 }
 
-/// The offset after a field of this kind.
+/// Returns the offset after a field of this kind.
 ///
 /// # Errors
 ///
-/// The first error from the left:
-/// - `ShortInput` where the message ends inside of the field, or where one is due;
+/// Returns the first error from the left:
+/// - `ShortInput` if the message ends inside of the field, or where one is due;
 /// - `Name` with the [`NameFault`] of a name, which has at most 255 octets and is read through at most 255 pointers;
-/// - `InvalidTag` where a tag is empty, or has an octet that is no letter and no digit;
-/// - `EmptyHash` where the hash of NSEC3 has no octet;
-/// - `WindowOrder` where the window of a block of type bitmaps isn't more than that of the block before it, and
-///   `BitmapLength` where a block has no octet or more than 32;
-/// - `KeyOrder` where the key of a service parameter isn't more than that of the one before it.
+/// - `InvalidTag` if a tag is empty, or has an octet that is no letter and no digit;
+/// - `EmptyHash` if the hash of NSEC3 has no octet;
+/// - `WindowOrder` if the window of a block of type bitmaps isn't greater than that of the block before it;
+/// - `BitmapLength` if such a block has no octet or more than 32;
+/// - `KeyOrder` if the key of a service parameter isn't greater than that of the one before it.
 #[tactic(auto, using(crate::proofs::Steps::form_at, crate::proofs::Steps::form_fault))]
 pub fn field_end(kind: FieldKind, message: &[u8], at: usize) -> Result<usize, DataFault>
     requires { at ≤ length message.now }
@@ -127,11 +127,11 @@ pub fn field_end(kind: FieldKind, message: &[u8], at: usize) -> Result<usize, Da
     form_end(form_of(kind), message, at)
 }
 
-/// The offset after fields of these kinds one after another.
+/// Returns the offset after fields of these kinds one after another.
 ///
 /// # Errors
 ///
-/// That of [`field_end`] at the first field that isn't there. Octets after the last field are no error.
+/// Returns the error of [`field_end`] at the first field that is missing. Octets after the last field are no error.
 pub fn fields_end(kinds: &[FieldKind], message: &[u8], begin: usize) -> Result<usize, DataFault>
     requires { begin ≤ length message.now }
     ensures ok { IfOk result (FieldsAt kinds.now message.now begin) }

@@ -7,7 +7,7 @@ use crate::kind::FieldKind;
 /// How a field is read. Kinds that differ in meaning alone have one form.
 #[derive(Clone, Copy, Debug, PartialEq, Eq)]
 pub enum FieldForm {
-    /// So many octets.
+    /// This number of octets.
     Fixed(usize),
     /// A name.
     Name,
@@ -21,7 +21,7 @@ pub enum FieldForm {
     Strings,
     /// The same once, of letters and digits, one or more.
     Tag,
-    /// Two octets that tell how many follow, and these.
+    /// Two octets that say how many follow, and these.
     LongCounted,
     /// Blocks of type bitmaps to the end of the data, one or more.
     Blocks,

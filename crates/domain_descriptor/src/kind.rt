@@ -41,7 +41,7 @@ pub enum FieldKind {
     CountedBase16,
     /// Octets behind one that says how many they are, one or more, shown in base32hex (RFC 5155, 3.1.6 and 3.1.7).
     CountedBase32,
-    /// Octets behind two that tell how many they are, shown in base64 (RFC 8945, 4.2).
+    /// Octets behind two that say how many they are, shown in base64 (RFC 8945, 4.2).
     CountedBase64,
     /// Bitmaps of types to the end of the data, one block or more (RFC 4034, 4.1.2).
     TypeBitmaps,

@@ -4,7 +4,7 @@ ghost use Rattle.domain_descriptor.specs.Fields.{OctetsAt, CountedAt, CountedCut
 
 use domain_header::numbers::number_of_16_bits;
 
-/// The offset after so many octets.
+/// The offset after `len` octets.
 pub(crate) fn octets_end(message: &[u8], at: usize, len: usize) -> Option<usize>
     requires { at ≤ length message.now }
     ensures some { IfSome result (OctetsAt message.now at len) }

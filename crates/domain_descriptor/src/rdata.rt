@@ -32,12 +32,12 @@ pub struct Rdata<'m> {
 impl<'m> Rdata<'m> {
     ghost use Rattle.domain_descriptor.specs.Rdatas.{rdata_type, rdata_class, rdata_kinds, rdata_message, rdata_begin, IsRdata, IsField, HasFieldsLeft};
 
-    /// The data of this type in this class that the octets from `begin` to the end of the message are (RFC 1035,
-    /// 3.2.1).
+    /// Returns the data of this type in this class that the octets from `begin` to the end of the message are (RFC
+    /// 1035, 3.2.1).
     ///
     /// # Errors
     ///
-    /// Those of [`check_data`]: the first error from the left.
+    /// Returns the errors of [`check_data`]: the first from the left.
     pub fn parse(
         rtype: u16,
         class: u16,
@@ -109,7 +109,7 @@ impl<'m> Rdata<'m> {
         }
     }
 
-    /// The field with so many fields before it. `None` exactly where there are no more.
+    /// Returns the field with `index` fields before it. `None` exactly when there are no more.
     #[tactic(auto, using(crate::proofs::Whole::no_fault_before, crate::proofs::Whole::no_fault_at, crate::proofs::Whole::field_inside))]
     pub fn field(&self, index: usize) -> Option<Field<'m>>
         ensures some { IfSome result (IsField self.now index) }

@@ -25,7 +25,7 @@ pub struct TimeField {
     pub seconds: u32,
 }
 
-/// The date and the time of day, in UTC, so many seconds after 1970 began.
+/// The date and the time of day, in UTC, `seconds` seconds after the start of 1970.
 fn utc(seconds: u32) -> DateTime
     ensures instant { civil_nanos result ≡ pos seconds *ℤ pos 1_000_000_000 }
 {

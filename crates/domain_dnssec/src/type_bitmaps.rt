@@ -117,10 +117,12 @@ impl<Octs: Octets + Drop> TypeBitmaps<Octs> {
 
     /// Returns the bitmaps that these octets are.
     ///
-    /// The error is `Long` if they are more than 65,535 octets, and otherwise the first error from the left:
-    /// - `ShortInput`, if there is no octet, or they end inside a block.
-    /// - `WindowOrder`, if the window of a block isn't greater than that of the block before it.
-    /// - `BitmapLength`, if a block has no octet or more than 32.
+    /// # Errors
+    ///
+    /// Returns `Long` if there are more than 65,535 octets, and otherwise the first error from the left:
+    /// - `ShortInput` if there is no octet, or they end inside a block;
+    /// - `WindowOrder` if the window of a block isn't greater than that of the block before it;
+    /// - `BitmapLength` if a block has no octet or more than 32.
     pub fn from_octets(octets: Octs) -> Result<TypeBitmaps<Octs>, TypeBitmapsError>
         ensures held { IfOk result (λ it. bitmaps_holder it ≡ octets) }
         ensures err { IfErr result (HasBitmapsFault (Octs.octets octets)) }
@@ -155,8 +157,12 @@ impl<Octs: Octets> TypeBitmaps<Octs> {
     }
 }
 
-/// Reads all remaining octets, which must be bitmaps. The errors are those of [`TypeBitmaps::from_octets`], two of
-/// them as form errors. If more than 65,535 octets remain, the form error is "record data too long".
+/// Reads all remaining octets, which must be bitmaps.
+///
+/// # Errors
+///
+/// Returns the errors of [`TypeBitmaps::from_octets`], two of them as form errors. If more than 65,535 octets remain,
+/// the form error is "record data too long".
 impl<'a> ReadField<'a, ParseError> for TypeBitmaps<&'a [u8]> {
     ghost use Rattle.domain_dnssec.specs.BitmapViews.{bitmaps_blocks};
 

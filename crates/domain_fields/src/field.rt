@@ -43,8 +43,10 @@ pub trait DataField {
 
     /// Appends the field, or nothing.
     ///
-    /// Fails only where there are octets, and those with no name compressed exceed the spare capacity of the target.
-    /// It leaves its octets then.
+    /// # Errors
+    ///
+    /// Returns the target's error only if the field has octets, and these, with no name compressed, exceed its spare
+    /// capacity. The target's octets are then unchanged.
     fn compose_field<T: Composer>(&self, target: &mut T) -> Result<(), T::AppendError>
         ensures ok { OnOk result (Grows T.Composer (composed self.now) target.old target.new) }
         ensures names { OnOk result (LeftTo T.Composer (written self.now) target.old target.new) }
@@ -54,10 +56,14 @@ pub trait DataField {
         ensures some { OnErr result (0 < length (uncompressed self.now false)) }
         ensures capacity { T.capacity target.old ≤ T.capacity target.new };
 
-    /// Appends the canonical form of the field, or nothing (RFC 4034, 6.2): no name is compressed, and names are in
-    /// lowercase if `lowercase`, which the type of the record tells.
+    /// Appends the canonical form of the field, or nothing (RFC 4034, 6.2).
     ///
-    /// Fails only where it has octets, and they exceed the spare capacity of the target, and leaves its octets then.
+    /// No name is compressed. Names are in lowercase if `lowercase`, which depends on the type of the record.
+    ///
+    /// # Errors
+    ///
+    /// Returns the target's error only if the form has octets, and they exceed its spare capacity. The target's octets
+    /// are then unchanged.
     fn compose_canonical_field<T: Composer>(
         &self,
         lowercase: bool,

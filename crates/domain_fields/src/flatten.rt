@@ -22,9 +22,11 @@ pub trait FlattenField<Target: DataField>: DataField + Sized {
     /// The fields for which the conversion may fail. It fails for no other.
     ghost may_refuse: { Self → Type 0 };
 
-    /// The field with uncompressed names.
+    /// Returns the field with uncompressed names.
     ///
-    /// `ShortBuf` only where octets don't fit or an allocation failed. The field is then dropped.
+    /// # Errors
+    ///
+    /// Returns `ShortBuf` only if octets don't fit or an allocation failed. The field is then dropped.
     fn flatten_field(self, alloc: Global) -> Result<Target, ShortBuf>
         ensures ok { IfOk result (λ made. same self made) }
         ensures err { OnErr result (may_refuse self) };

@@ -30,7 +30,12 @@ use std::hash::Hasher;
 
 /// An absolute name that record data may have.
 pub trait DataName: Absolute {
-    /// Appends octets that the target may write for the name, or nothing, as `append_compressed_name`.
+    /// Appends octets that the target may write for the name, or nothing, like `append_compressed_name`.
+    ///
+    /// # Errors
+    ///
+    /// Returns the target's error only if such octets exceed its spare capacity. The target's octets are then
+    /// unchanged.
     fn append_name<T: Composer>(&self, target: &mut T) -> Result<(), T::AppendError>
         ensures ok { OnOk result (AddsName T.Composer Self.labels self.now target.old target.new) }
         ensures appends { OnOk result (T.appends target.old (Self.labels self.now) target.new) }
@@ -40,6 +45,11 @@ pub trait DataName: Absolute {
         ensures capacity { T.capacity target.old ≤ T.capacity target.new };
 
     /// Appends the name with no pointer (RFC 1035, 3.1), or nothing.
+    ///
+    /// # Errors
+    ///
+    /// Returns the target's error only if these octets exceed its spare capacity. The target's octets are then
+    /// unchanged.
     fn append_uncompressed<T: Composer>(&self, target: &mut T) -> Result<(), T::AppendError>
         ensures ok { OnOk result
             (NameFollows T.Octets (Self.labels self.now) target.old target.new) }
@@ -51,6 +61,11 @@ pub trait DataName: Absolute {
         ensures capacity { T.capacity target.old ≤ T.capacity target.new };
 
     /// Appends the name in lowercase with no pointer (RFC 4034, 6.2), or nothing.
+    ///
+    /// # Errors
+    ///
+    /// Returns the target's error only if these octets exceed its spare capacity. The target's octets are then
+    /// unchanged.
     fn append_lowercase<T: Composer>(&self, target: &mut T) -> Result<(), T::AppendError>
         ensures ok { OnOk result
             (LowercaseFollows T.Octets (Self.labels self.now) target.old target.new) }
@@ -72,7 +87,12 @@ pub trait DataName: Absolute {
     fn hash_lowercase<H: Hasher>(&self, state: &mut H)
         ensures { state.new ≡ hashed H.write (lowercase_wire (Self.labels self.now)) state.old };
 
-    /// Appends the name with no pointer, in lowercase if so, or nothing.
+    /// Appends the name with no pointer, in lowercase if `lowercase`, or nothing.
+    ///
+    /// # Errors
+    ///
+    /// Returns the target's error only if these octets exceed its spare capacity. The target's octets are then
+    /// unchanged.
     final fn append_cased<T: Composer>(
         &self,
         lowercase: bool,

@@ -8,13 +8,13 @@ use crate::sequence::Sequence;
 use domain_wire::net::{Ipv4Addr, Ipv6Addr};
 use std::cmp::Ordering;
 
-/// A field whose canonical form ends where its own octets tell, so that data is compared field by field.
+/// A field whose canonical form ends where its own octets say, so that data is compared field by field.
 ///
 /// The last field of data has [`OrderedLast`], too, by which the data is ordered.
 pub trait OrderedField: DataField {
     /// The order of the octets of the canonical forms from the left; what begins another comes first (RFC 4034, 6.3).
     ///
-    /// Names are in lowercase there if `lowercase`, which the type of the record tells.
+    /// Names are in lowercase there if `lowercase`, which depends on the type of the record.
     fn canonical_field_cmp(&self, other: &Self, lowercase: bool) -> Ordering
         ensures order { result ≡ octets_order Self.uncompressed lowercase self.now other.now }
         // With other fields after them, these are looked at only where the two are the same.
@@ -27,7 +27,7 @@ pub trait OrderedField: DataField {
 pub trait OrderedLast: DataField {
     /// The order of the octets of the canonical forms from the left; what begins another comes first (RFC 4034, 6.3).
     ///
-    /// Names are in lowercase there if `lowercase`, which the type of the record tells.
+    /// Names are in lowercase there if `lowercase`, which depends on the type of the record.
     fn canonical_last_cmp(&self, other: &Self, lowercase: bool) -> Ordering
         ensures { result ≡ octets_order Self.uncompressed lowercase self.now other.now };
 }

@@ -20,7 +20,7 @@ pub trait FieldError: Sized {
     /// What the error says.
     ghost said: { Self → Refusal };
 
-    /// The error where octets are left after the last field.
+    /// The error if octets remain after the last field.
     fn trailing_data() -> Self
         ensures { said result ≡ form (codes "trailing data") };
 }
@@ -47,7 +47,11 @@ pub trait ReadField<'a, E: FieldError>: Sized {
     /// No value is at the offset, and the error says why.
     ghost fails_with: { List ℕ → ℕ → E → Type 0 };
 
-    /// Reads a value at the parser's position, and moves the parser to its end. An error leaves the parser.
+    /// Reads a value at the parser's position, and moves the parser to its end.
+    ///
+    /// # Errors
+    ///
+    /// Returns an error if there is no such value at the position (`fails_with`). The parser is then unchanged.
     fn read_field(parser: &mut Parser<'a>) -> Result<Self, E>
         ensures ok { IfOk result (ReadsValue encodes model parser.old parser.new) }
         ensures moves { OnOk result (MovesTo parser.old parser.new (position parser.new)) }
@@ -60,7 +64,9 @@ pub trait ReadField<'a, E: FieldError>: Sized {
 
 /// Reads a value that must take all remaining octets.
 ///
-/// The error is that of the value, or "trailing data" if octets remain after it. An error leaves the parser unchanged.
+/// # Errors
+///
+/// Returns the error of the value, or "trailing data" if octets remain after it. The parser is then unchanged.
 pub fn read_all<'a, E: FieldError, F: ReadField<'a, E> + Drop>(
     parser: &mut Parser<'a>,
 ) -> Result<F, E>

@@ -17,7 +17,11 @@ pub struct Sequence<A, B> {
     pub rest: B,
 }
 
-/// The first field, and at its end the rest. The first error decides.
+/// The first field, and at its end the rest.
+///
+/// # Errors
+///
+/// Returns the first error.
 impl<'a, E: FieldError, A: ReadField<'a, E> + Drop, B: ReadField<'a, E> + Drop> ReadField<'a, E>
     for Sequence<A, B> {
     ghost View = { A.View × B.View };

@@ -34,7 +34,9 @@ fn pass_labels(octets: &[u8]) -> Result<&[u8], SplitLabelError>
 
 /// Tests that the octets are the wire format of an absolute name (RFC 1035, 3.1).
 ///
-/// `LongName` where they are more than 255; else the first error from the left.
+/// # Errors
+///
+/// Returns `LongName` if there are more than 255 octets, else the first error from the left.
 pub fn check_absolute(octets: &[u8]) -> Result<(), NameError>
     ensures ok { OnOk result (IsAbsoluteWire octets.now) }
     ensures err { IfErr result (TellsFault octets.now) }
@@ -53,7 +55,9 @@ pub fn check_absolute(octets: &[u8]) -> Result<(), NameError>
 
 /// Tests that the octets are the wire format of a relative name.
 ///
-/// `LongName` where they are more than 254; else the first error from the left.
+/// # Errors
+///
+/// Returns `LongName` if there are more than 254 octets, else the first error from the left.
 pub fn check_relative(octets: &[u8]) -> Result<(), RelativeNameError>
     ensures ok { OnOk result (IsRelativeWire octets.now) }
     ensures err { IfErr result (TellsRelativeFault octets.now) }
@@ -68,9 +72,11 @@ pub fn check_relative(octets: &[u8]) -> Result<(), RelativeNameError>
     }
 }
 
-/// How many octets the absolute name has that the octets begin with.
+/// Returns the number of octets of the absolute name that the octets start with.
 ///
-/// The number is tested after the root, so that an error of the format comes first.
+/// # Errors
+///
+/// Returns the first error from the left. The number is tested after the root, so an error of the format comes first.
 pub fn name_len(octets: &[u8]) -> Result<usize, ParseError>
     ensures ok { IfOk result (BeginsWithNameOf octets.now) }
     ensures err { IfErr result (λ e. StartFault octets.now (refusal e)) }

@@ -48,7 +48,7 @@ impl<'a> NameIter<'a> {
         }
     }
 
-    /// Fills the table, where it isn't filled. False where no label is left, or more than fit in it.
+    /// Fills the table, where it isn't filled. False if no label remains, or more than fit in it.
     fn fill(&mut self) -> bool
         ensures same { self.new.octets ≡ self.old.octets }
         ensures filled { IsTrue result → 0 < self.new.count }

@@ -68,7 +68,7 @@ impl Class {
         self.0
     }
 
-    /// Returns the class of this mnemonic, ignoring ASCII case. `None` exactly if the table has no such word.
+    /// Returns the class of this mnemonic, ignoring ASCII case. `None` exactly when the table has no such word.
     pub fn from_mnemonic(word: &str) -> Option<Class>
         ensures { NumberOf word.now class_rows (option_map class_number result) }
     {
@@ -79,7 +79,7 @@ impl Class {
     }
 
     /// Returns the class that this text names: by its mnemonic, or by `CLASS` immediately followed by its number in
-    /// decimal digits (RFC 3597, 5), ignoring ASCII case. `None` exactly if it names none.
+    /// decimal digits (RFC 3597, 5), ignoring ASCII case. `None` exactly when it names none.
     pub fn from_text(text: &str) -> Option<Class>
         ensures { Named class_rows (codes "CLASS") text.now (option_map class_number result) }
     {

@@ -110,7 +110,7 @@ pub fn extended_rcodes() -> &'static [Mnemonic]
     &RCODES
 }
 
-/// Returns the table of those that four bits can tell.
+/// Returns the table of those that four bits can state.
 fn rcodes() -> &'static [Mnemonic]
     ensures { rows_of result.now ≡ rcode_rows }
 {
@@ -127,7 +127,7 @@ pub struct Opcode {
 impl Opcode {
     ghost use Rattle.domain_header.specs.Values.{opcode_number};
 
-    /// The code of this number. `None` exactly if it has more than four bits.
+    /// The code of this number. `None` exactly when it has more than four bits.
     pub fn checked_from_int(number: u8) -> Option<Opcode>
         ensures some { IfSome result (λ code. opcode_number code ≡ number) }
         ensures none { IsNone result ↔ (16 ≤ number) }
@@ -185,7 +185,7 @@ pub struct Rcode {
 impl Rcode {
     ghost use Rattle.domain_header.specs.Values.{rcode_number};
 
-    /// The code of this number. `None` exactly if it has more than four bits.
+    /// The code of this number. `None` exactly when it has more than four bits.
     pub fn checked_from_int(number: u8) -> Option<Rcode>
         ensures some { IfSome result (λ code. rcode_number code ≡ number) }
         ensures none { IsNone result ↔ (16 ≤ number) }

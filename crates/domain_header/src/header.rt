@@ -52,9 +52,11 @@ impl HeaderSection {
         self.counts
     }
 
-    /// Writes the twelve octets over those that a message begins with, and no others.
+    /// Writes the twelve octets over the first twelve of a message, and no others.
     ///
-    /// `ShortMessage` exactly if the message has fewer than twelve. The message is then unchanged.
+    /// # Errors
+    ///
+    /// Returns `ShortMessage` if and only if the message has fewer than twelve. The message is then unchanged.
     pub fn write(self, message: &mut [u8]) -> Result<(), ShortMessage>
         ensures short { IsErr result ↔ (length message.old < 12) }
         ensures unchanged { OnErr result (message.new ≡ message.old) }

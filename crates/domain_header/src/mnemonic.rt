@@ -11,7 +11,7 @@ pub struct Mnemonic {
     pub word: &'static str,
 }
 
-/// Returns the word of a number: that of its first row in the table. `None` exactly if it has no row.
+/// Returns the word of a number: that of its first row in the table. `None` exactly when it has no row.
 pub fn mnemonic_word(table: &[Mnemonic], number: u16) -> Option<&'static str>
     ensures { option_map (λ word. word.now) result ≡ word_of (rows_of table.now) number }
 {
@@ -23,8 +23,8 @@ pub fn mnemonic_word(table: &[Mnemonic], number: u16) -> Option<&'static str>
     None
 }
 
-/// Returns the number of a word, ignoring ASCII case: that of its first row in the table. `None` exactly if it has no
-/// row.
+/// Returns the number of a word, ignoring ASCII case: that of its first row in the table. `None` exactly when it has
+/// no row.
 pub fn mnemonic_number(table: &[Mnemonic], word: &str) -> Option<u16>
     ensures { NumberOf word.now (rows_of table.now) result }
 {

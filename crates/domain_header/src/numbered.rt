@@ -5,7 +5,7 @@ ghost use Rattle.domain_header.specs.Numbered.{IsDecimal, IsNumbered, Named};
 
 use crate::mnemonic::{Mnemonic, mnemonic_number};
 
-/// Returns the number of these decimal digits. `None` exactly if there is none, one isn't a digit, or the number has
+/// Returns the number of these decimal digits. `None` exactly when there is none, one isn't a digit, or the number has
 /// more than 16 bits.
 fn decimal_number(text: &[u8]) -> Option<u16>
     ensures some { IfSome result (λ n. IsDecimal text.now n) }
@@ -27,7 +27,7 @@ fn decimal_number(text: &[u8]) -> Option<u16>
     Some(number as u16)
 }
 
-/// Returns the number after the word (RFC 3597, 5), ignoring ASCII case in the word. `None` exactly if the text
+/// Returns the number after the word (RFC 3597, 5), ignoring ASCII case in the word. `None` exactly when the text
 /// doesn't begin with the word, or what follows isn't a number of at most 16 bits in decimal digits.
 pub fn number_after(word: &str, text: &str) -> Option<u16>
     ensures some { IfSome result (λ n. IsNumbered word.now text.now n) }
@@ -44,7 +44,7 @@ pub fn number_after(word: &str, text: &str) -> Option<u16>
 }
 
 /// Returns the number that a text names: that of its mnemonic in the table, ignoring ASCII case, else the number after
-/// the word. `None` exactly if it names none.
+/// the word. `None` exactly when it names none.
 pub fn named_number(table: &[Mnemonic], word: &str, text: &str) -> Option<u16>
     ensures { Named (rows_of table.now) word.now text.now result }
 {

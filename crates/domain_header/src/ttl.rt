@@ -53,7 +53,7 @@ impl Ttl {
         if self.0 < other.0 { self } else { other }
     }
 
-    /// What is left of it after another: zero where that is longer.
+    /// Returns what remains of it after another: zero if that is longer.
     pub fn saturating_sub(self, other: Ttl) -> Ttl
         ensures { ttl_seconds result ≡ ttl_seconds self - ttl_seconds other }
     {

@@ -27,8 +27,10 @@ impl<'a> Label<'a> {
 
     /// Appends the wire format: the length octet and the octets (RFC 1035, 3.1).
     ///
-    /// It fails only where these octets exceed the target's spare capacity. A call that fails leaves the target's
-    /// octets as they were.
+    /// # Errors
+    ///
+    /// Returns the target's error only if these octets exceed its spare capacity. The octets of the target are then
+    /// unchanged.
     pub fn compose<Target: OctetsBuilder>(
         &self,
         target: &mut Target,
@@ -45,7 +47,12 @@ impl<'a> Label<'a> {
         append_wire(&OwnedLabel::from_label(*self), target)
     }
 
-    /// Appends the wire format with A to Z as a to z (RFC 4034, 6.2), else as `compose`.
+    /// Appends the wire format with A to Z as a to z (RFC 4034, 6.2).
+    ///
+    /// # Errors
+    ///
+    /// Like [`compose`](Label::compose): returns the target's error only if the octets exceed its spare capacity. The
+    /// octets of the target are then unchanged.
     pub fn compose_canonical<Target: OctetsBuilder>(
         &self,
         target: &mut Target,

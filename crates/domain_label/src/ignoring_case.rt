@@ -35,8 +35,8 @@ fn same_ends(a: &[u8], b: &[u8], size: usize) -> bool
     same
 }
 
-/// The same of many octets, as those of a whole name. The last ones come first, so that none are left over after the
-/// parts: the last of these may reach into them.
+/// The same of many octets, as those of a whole name. The last ones come first, so that none remain after the parts:
+/// the last of these may reach into them.
 fn same_parts(a: &[u8], b: &[u8]) -> bool
     requires sized { length a.now ≡ length b.now }
     requires long { 16 ≤ length a.now }

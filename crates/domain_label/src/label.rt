@@ -60,9 +60,11 @@ impl<'a> Label<'a> {
         Label { octets: b"*" }
     }
 
-    /// The label of these octets.
+    /// Returns the label of these octets.
     ///
-    /// `LongLabelError` where they are more than 63.
+    /// # Errors
+    ///
+    /// Returns `LongLabelError` if there are more than 63.
     pub fn from_slice(octets: &'a [u8]) -> Result<Label<'a>, LongLabelError>
         ensures ok { IfOk result (λ label. label_octets label ≡ octets.now) }
         ensures long { IsErr result ↔ (63 < length octets.now) }
@@ -81,11 +83,14 @@ impl<'a> Label<'a> {
         Label { octets }
     }
 
-    /// The label that the octets begin with, and the octets after it (RFC 1035, 3.1).
+    /// Returns the label that the octets start with, and the octets after it (RFC 1035, 3.1).
     ///
-    /// The first octet decides: from 0xc0 on it begins a `Pointer` to the offset in the low 14 bits, from 0x40 on it
-    /// is a `BadType`. `ShortInput` where the first octet, an octet of the label or the second octet of the pointer
-    /// is missing.
+    /// # Errors
+    ///
+    /// The first octet decides:
+    /// - `Pointer` if it is 0xc0 or more: it starts a pointer to the offset in the low 14 bits, which the error has;
+    /// - `BadType` if it is from 0x40 to 0xbf;
+    /// - `ShortInput` if the first octet, an octet of the label or the second octet of the pointer is missing.
     pub fn split_from(octets: &'a [u8]) -> Result<(Label<'a>, &'a [u8]), SplitLabelError>
         ensures exact { IsOk result ↔ HasFirstLabel octets.now }
         ensures ok { IfOk result (λ parts. SplitsInto octets.now parts) }

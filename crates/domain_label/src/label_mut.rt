@@ -21,9 +21,11 @@ impl<'a> LabelMut<'a> {
     ghost use Rattle.domain_label.specs.LendingLabel.{LendsSlice};
     ghost use Rattle.domain_label.specs.LendingLabelParts.{LendsIfLabel, LendsLabelAndRest, IsFound};
 
-    /// The label of these octets, in place.
+    /// Returns the label of these octets, in place.
     ///
-    /// `LongLabelError` where they are more than 63. The octets stay as they are.
+    /// # Errors
+    ///
+    /// Returns `LongLabelError` if there are more than 63. The octets are unchanged.
     pub fn from_slice_mut(octets: &'a mut [u8]) -> Result<LabelMut<'a>, LongLabelError>
         ensures same_reference { IfOk result
             (λ label. label.octets.ghost_name ≡ octets.entry.ghost_name) }
@@ -45,12 +47,15 @@ impl<'a> LabelMut<'a> {
         LabelMut { octets }
     }
 
-    /// The label that the octets begin with, and the octets after it, both in place (RFC 1035, 3.1).
+    /// Returns the label that the octets start with, and the octets after it, both in place (RFC 1035, 3.1).
     ///
-    /// The errors are those of [`Label::split_from`], and then the octets stay as they are. Once both parts end, the
-    /// octets are the first one as it was, the label's as they were left, and then the rest (`writes_back`). A
-    /// caller's proof can't use this clause. It can use that of
+    /// Once both parts end, the octets are the first one unchanged, the label's as its borrow left them, and then the
+    /// rest (`writes_back`). A caller's proof can't use this clause. It can use that of
     /// [`split_octets_mut`](crate::split_mut::split_octets_mut).
+    ///
+    /// # Errors
+    ///
+    /// Returns the errors of [`Label::split_from`]. The octets are then unchanged.
     pub fn split_from_mut(
         octets: &'a mut [u8],
     ) -> Result<(LabelMut<'a>, &'a mut [u8]), SplitLabelError>

@@ -46,16 +46,21 @@ impl OwnedLabel {
         OwnedLabel { wire }
     }
 
-    /// Reads a label from text (RFC 1035, 5.1). The empty text is that of the root label.
+    /// Reads a label from text (RFC 1035, 5.1).
     ///
-    /// A character from space to tilde stands for itself, except dot and backslash. A backslash and three decimal
-    /// digits of value at most 255 are that octet. A backslash before an ASCII character that isn't a digit is that
-    /// character, also where it is a control character.
+    /// The empty text is that of the root label. A character from space to tilde stands for itself, except dot and
+    /// backslash. A backslash and three decimal digits of value at most 255 are that octet. A backslash before an
+    /// ASCII character that isn't a digit is that character, also where it is a control character.
     ///
-    /// The first error is returned. Any other character, and a plain dot, is `BadSymbol`. A broken escape is
-    /// `SymbolChars`: `ShortInput` where the text ends inside it, else `BadEscape`. `\[` at the start is
-    /// `BinaryLabel`. Anything after 63 octets is `LongLabel`, before it is checked. By `laws::scan_laws` each text is
-    /// that of one label or has one error, and that is the result.
+    /// # Errors
+    ///
+    /// Returns the first error of the text:
+    /// - `BadSymbol` at any other character, and at a plain dot;
+    /// - `SymbolChars` at a broken escape: `ShortInput` if the text ends inside it, else `BadEscape`;
+    /// - `BinaryLabel` at `\[` at the start;
+    /// - `LongLabel` at anything after 63 octets, before it is checked.
+    ///
+    /// By `laws::scan_laws` each text is that of one label or has one error, and that is the result.
     pub fn from_chars<I: Iterator<Item = char> + Drop>(
         chars: I,
     ) -> Result<OwnedLabel, LabelFromStrError>

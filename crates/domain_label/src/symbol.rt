@@ -19,9 +19,11 @@ pub enum Symbol {
 }
 
 impl Symbol {
-    /// The octet that the symbol stands for. An escape always does.
+    /// Returns the octet that the symbol stands for.
     ///
-    /// `BadSymbol` for a character that isn't from space to tilde.
+    /// # Errors
+    ///
+    /// Returns `BadSymbol` for a plain character that isn't from space to tilde. An escape always stands for an octet.
     #[inline(always)]
     pub fn into_octet(self) -> Result<u8, BadSymbol>
         ensures { result ≡ octet_of self }

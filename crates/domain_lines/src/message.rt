@@ -333,15 +333,20 @@ fn write_rest<W: Sink>(parser: &mut Parser<'_>, output: &mut W) -> Result<(), To
     Ok(())
 }
 
-/// Writes the message in presentation format: two lines of the header, and for each section its heading and a line for
-/// each question or record. A last line says how many octets follow the last record, if any do.
+/// Writes the message in presentation format.
+///
+/// That is two lines of the header, and for each section its heading and a line for each question or record. A last
+/// line states how many octets follow the last record, if any do.
 ///
 /// Data of a record that can't be read is shown in the form of RFC 3597, 5, with the reason after it. An OPT record of
 /// the root in the additional section has a line of its version, flags and size, and one for each option (RFC 6891,
 /// 6.1).
 ///
-/// `Parse` says why the message can't be shown to its end: it has fewer than twelve octets, or a question or record
-/// that the header counts is missing. All lines before that are written. The other errors are of writing.
+/// # Errors
+///
+/// Returns `Parse` with the reason if the message can't be shown to its end: it has fewer than twelve octets, or a
+/// question or record that the header counts is missing. All lines before that are then written. The other errors are
+/// of writing.
 pub fn write_message<W: Sink>(message: &[u8], output: &mut W) -> Result<(), ToolError>
     ensures written { OnOk result (PutsMessage message.now (W.takes output.old output.new)) }
     ensures refused { IfRefused result (PutsPart message.now (W.takes output.old output.new)) }

@@ -85,8 +85,13 @@ fn is_bare(found: &ParsedRecord<'_>) -> bool
     found.rdlen() == 0 && (class == 254 || class == 255)
 }
 
-/// Writes the line of a record, with its data as its type and class have it, or as octets with a remark where it can't
-/// be read.
+/// Writes the line of a record.
+///
+/// Its data is shown as its type and class have it, or as octets with a remark if it can't be read.
+///
+/// # Errors
+///
+/// Returns an error if writing failed.
 pub fn write_record<W: Sink>(found: &ParsedRecord<'_>, output: &mut W) -> Result<(), WriteFault>
     ensures written { OnOk result (PutsLine found.now (W.takes output.old output.new)) }
     ensures failed { OnErr result (W.failed output.new) }

@@ -54,7 +54,11 @@ impl<'a> Room<'a> {
 impl<'a> fmt::Write for Room<'a> {
     ghost write_str_gives = { λ a text b. takes a b text };
 
-    /// It fails only where there are more octets than a `usize` counts.
+    /// Puts what fits of the octets of the text after those that were put.
+    ///
+    /// # Errors
+    ///
+    /// Fails only if there are more octets than a `usize` counts.
     fn write_str(&mut self, s: &str) -> fmt::Result {
         self.put(s.as_bytes())
     }

@@ -16,13 +16,17 @@ use std::io::{Read, Write};
 /// A contract states by `failed` that reading failed. A function over any `Source` knows nothing of `failed` except
 /// that a call that failed left it so. So its contract can't report a failure that didn't occur.
 pub trait Source {
-    /// What is left to read, where that is known.
+    /// What remains to be read, if that is known.
     ghost remaining: { Self → Option (List ℕ) };
 
     /// The last call failed.
     ghost failed: { Self → Type 0 };
 
-    /// Reads all that remains. Returns `Read` if reading failed, and `Memory` if there was no memory for it.
+    /// Reads all that remains.
+    ///
+    /// # Errors
+    ///
+    /// Returns `Read` if reading failed, and `Memory` if an allocation failed.
     fn read_whole(&mut self, alloc: Global) -> Result<Vec<u8>, ToolError>
         ensures octets { IfOk result (λ it. IfSome (remaining self.old) (λ m. it.items ≡ m)) }
         ensures whole { OnOk result (IsAtEnd (remaining self.new)) }
@@ -45,8 +49,9 @@ impl<R: Read> Source for R {
 
 /// A stream that lines and octets are written to: any `Write`. `failed` is as that of `Source`.
 ///
-/// A contract tells by `sent` that all was sent on, of which a function over any `Sink` knows nothing but that a
-/// `send` that returned `Ok` left it so. So it can't tell so where it didn't send, or passed over an error.
+/// A contract states by `sent` that all was sent on. A function over any `Sink` knows nothing of `sent` except that a
+/// `send` that returned `Ok` left it so. So its contract can't state it if the function didn't send, or ignored an
+/// error.
 pub trait Sink {
     /// What it holds, where that is known.
     ghost contents: { Self → Option (List ℕ) };
@@ -62,6 +67,10 @@ pub trait Sink {
     ghost sent: { Self → Type 0 };
 
     /// Writes octets.
+    ///
+    /// # Errors
+    ///
+    /// Returns an error if writing failed.
     fn put_octets(&mut self, octets: &[u8]) -> Result<(), WriteFault>
         ensures written { OnOk result
             (Appends (contents self.old) (contents self.new) octets.now) }
@@ -69,12 +78,20 @@ pub trait Sink {
         ensures failed { OnErr result (failed self.new) };
 
     /// Writes a text and a newline.
+    ///
+    /// # Errors
+    ///
+    /// Returns an error if writing failed.
     fn put_line<D: Display + Drop>(&mut self, text: D) -> Result<(), WriteFault>
         ensures written { OnOk result (AppendsLine contents (D.output text) self.old self.new) }
         ensures taken { OnOk result (PutsTextLine takes (D.output text) self.old self.new) }
         ensures failed { OnErr result (failed self.new) };
 
     /// Sends on what was written.
+    ///
+    /// # Errors
+    ///
+    /// Returns an error if sending failed.
     fn send(&mut self) -> Result<(), WriteFault>
         ensures kept { OnOk result (Keeps (contents self.old) (contents self.new)) }
         ensures sent { OnOk result (sent self.new) }

@@ -58,10 +58,13 @@ impl<L: NameLabels + Copy, R: NameLabels + Copy> Clone for Chain<L, R> {
 impl<L: NameLabels + Drop, R: NameLabels + Drop> Chain<L, R> {
     ghost use Rattle.domain_list.specs.ChainParts.{left_part, right_part};
 
-    /// The chain of a relative name and another name.
+    /// Returns the chain of a relative name and another name.
     ///
-    /// `LongChainError` where more than 254 octets come before any root label. That `left` is relative can be tested
-    /// by `is_absolute`.
+    /// `left` must be relative, which `is_absolute` tests.
+    ///
+    /// # Errors
+    ///
+    /// Returns `LongChainError` if more than 254 octets come before any root label.
     pub fn new(left: L, right: R) -> Result<Chain<L, R>, LongChainError>
         requires { IsRelative (L.labels left) }
         ensures parts { IfOk result (λ c. (left_part c ≡ left) × (right_part c ≡ right)) }

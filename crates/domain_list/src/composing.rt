@@ -127,8 +127,10 @@ fn put_lowercase_name<'a, N: ToLabelIter<'a>>(name: &'a N, octets: &mut [u8; 255
 
 /// Appends the wire format of a name of any kind at once, or nothing.
 ///
-/// The target's error where the octets don't fit, or where there was no memory for them; the target
-/// is then as before. Where they fit its spare capacity, there is none.
+/// # Errors
+///
+/// Returns the target's error only if the octets don't fit or an allocation failed, so never if they fit its spare
+/// capacity. The octets of the target are then unchanged.
 #[inline(always)]
 pub fn compose_name<'a, N: ToLabelIter<'a>, Target: OctetsBuilder>(
     name: &'a N,
@@ -155,8 +157,10 @@ pub fn compose_name<'a, N: ToLabelIter<'a>, Target: OctetsBuilder>(
 
 /// Appends the wire format of a name of any kind in lower case (RFC 4034, 6.2) at once, or nothing.
 ///
-/// The target's error where the octets don't fit, or where there was no memory for them; the target
-/// is then as before. Where they fit its spare capacity, there is none.
+/// # Errors
+///
+/// Returns the target's error only if the octets don't fit or an allocation failed, so never if they fit its spare
+/// capacity. The octets of the target are then unchanged.
 #[inline(always)]
 pub fn compose_canonical_name<'a, N: ToLabelIter<'a>, Target: OctetsBuilder>(
     name: &'a N,

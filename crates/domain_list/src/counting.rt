@@ -4,7 +4,7 @@ ghost use Rattle.domain_list.specs.Count.{rrsig_labels};
 
 use crate::labels::LabelIterator;
 
-/// How many labels are left, without the root and without a first `*` (RFC 4034, 3.1.3).
+/// How many labels remain, without the root and without a first `*` (RFC 4034, 3.1.3).
 pub fn rrsig_count<'a, I: LabelIterator<'a>>(labels: I) -> u8
     requires { length (I.left labels) < 2 ^ 8 }
     ensures { result ≡ rrsig_labels (I.left labels) }

@@ -67,7 +67,7 @@ fn is_end<'a, A: ToLabelIter<'a>, B: ToLabelIter<'a>>(
 
 /// Whether the name `a` ends with the labels of `b`, ignoring ASCII case.
 ///
-/// Labels of `a` are skipped until no more octets are left than `b` has.
+/// Labels of `a` are skipped until no more octets remain than `b` has.
 pub fn ends_with_labels<'a, A: ToLabelIter<'a>, B: ToLabelIter<'a>>(a: &'a A, b: &'a B) -> bool
     ensures { IsTrue result ↔ EndsWith (A.labels a.now) (B.labels b.now) }
 {

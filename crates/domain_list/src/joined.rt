@@ -17,7 +17,7 @@ use std::marker::PhantomData;
 /// more than a name mostly has, since the buffer is cleared before it is filled.
 const ROOM: usize = 320;
 
-/// Writes what the buffer has and empties it, where so many more characters don't fit after it.
+/// Writes what the buffer has and empties it, if `needed` more characters don't fit after it.
 #[inline(always)]
 fn make_room<W: fmt::Write>(
     needed: usize,

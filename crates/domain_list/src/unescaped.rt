@@ -37,7 +37,7 @@ fn put_dots<'a, I: LabelIterator<'a>>(labels: I, octets: &mut [u8; 255]) -> u8
     count
 }
 
-/// Whether octets are printed, none of them a space or a backslash, and so many of them dots. All are looked at, so
+/// Whether octets are printed, none of them a space or a backslash, and `dots` of them dots. All are looked at, so
 /// that many are tested at once.
 #[inline(always)]
 fn has_dots(text: &[u8], dots: u8) -> bool

@@ -19,10 +19,13 @@ use domain_tool::tool::{ToolError, WriteFault};
 use std::alloc::Global;
 use std::fmt;
 
-/// Appends to an empty target the message that the lines of a text say.
+/// Appends to an empty target the message that the lines of a text describe.
 ///
-/// `Line` has the first line that isn't taken, and why: it says nothing of a message, or an entry that isn't pushed
-/// after those before it. `Memory` where there was no memory, or the target isn't empty.
+/// # Errors
+///
+/// - `Line` with the first line that isn't taken, and why: it describes no part of a message, or an entry that isn't
+///   pushed after those before it.
+/// - `Memory` if an allocation failed, or the target isn't empty.
 pub fn make_message<Target: Composer + Drop>(
     alloc: Global,
     text: &[u8],
@@ -112,12 +115,16 @@ fn send_octets<W: Sink>(octets: &[u8], hex: bool, output: &mut W) -> Result<(), 
     }
 }
 
-/// Reads the input to its end, writes the message that its lines say, as it is or in hexadecimal digits and with a
-/// newline, and flushes the output.
+/// Reads the input to its end, writes the message that its lines describe, and flushes the output.
 ///
-/// `Line` has the first line that isn't taken, and why, as of `make_message`; nothing is written then. `Read` and
-/// `Write` only where the stream failed. `Memory` where there was none for the input, or for the message after all of
-/// the input was read; nothing is written then.
+/// The message is written as octets, or, with `hex`, in hexadecimal digits and with a newline.
+///
+/// # Errors
+///
+/// - `Line` with the first line that isn't taken, and why, as of `make_message`. Nothing is then written.
+/// - `Read` and `Write` only if the stream failed. Nothing is written after `Read`.
+/// - `Memory` if an allocation failed, for the input, or for the message after all of the input was read. Nothing is
+///   then written.
 pub fn make<R: Source, W: Sink>(
     alloc: Global,
     input: &mut R,
@@ -171,13 +178,18 @@ fn tell<D: fmt::Display + Drop, E: Sink>(reason: D, errors: &mut E)
     let _ = errors.put_line(reason);
 }
 
-/// Carries out the words that follow the program's name: `make`, with `--hex` after it or not. The answer is the
-/// status to end with: 0 where the message was written, 1 where a line isn't taken, 2 for other words, and 3 where
-/// reading, writing or memory failed.
+/// Carries out the words that follow the program's name: `make`, with `--hex` after it or not.
 ///
-/// The reason is written to `errors`, and a newline: of status 1 the line, the column and the fault, of 2 the usage,
-/// of 3 `reading failed`, `writing failed` or `out of memory`. That this fails changes no status. Where all is done
-/// nothing is written there.
+/// Returns the status to end with: 0 if the message was written. Nothing is then written to `errors`.
+///
+/// # Errors
+///
+/// - 1 if a line isn't taken. The line, the column and the fault are written to `errors`, and nothing to `output`.
+/// - 2 for other words. The usage is written to `errors`. Nothing is read, or written to `output`.
+/// - 3 if reading, writing or memory failed. `reading failed`, `writing failed` or `out of memory` is written to
+///   `errors`.
+///
+/// A newline follows the reason. If writing it fails, the status is the same.
 pub fn run<R: Source, W: Sink, E: Sink>(
     alloc: Global,
     words: &[&str],

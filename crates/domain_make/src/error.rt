@@ -41,7 +41,7 @@ pub enum Fault {
     Octets,
     /// An entry of a section after one of a later section.
     Order,
-    /// More entries of a section than its count tells.
+    /// More entries of a section than its count states.
     Count,
     /// A longer message than 65,535 octets.
     Limit,

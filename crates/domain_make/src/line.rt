@@ -53,7 +53,7 @@ fn take_remark<Target: Composer>(
     }
 }
 
-/// Takes an OPT record: what its first line tells, and what the lines ahead say of its options.
+/// Takes an OPT record: what its first line says, and what the lines ahead say of its options.
 fn take_opt<Target: Composer>(
     alloc: Global,
     told: EdnsTold,

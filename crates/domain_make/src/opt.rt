@@ -38,7 +38,7 @@ impl EdnsTold {
         self.size
     }
 
-    /// Whether the line tells a response code whose lower four bits aren't this one of the header.
+    /// Whether the line states a response code whose lower four bits aren't this one of the header.
     fn has_other_status(&self, rcode: Rcode) -> bool
         ensures { IsTrue result ↔ IsOtherStatus self.now (rcode_number rcode) }
     {
@@ -59,10 +59,10 @@ impl EdnsTold {
         }
     }
 
-    /// The TTL that the line tells where the header has this response code, whose four bits are the lower ones of the
+    /// The TTL that the line states where the header has this response code, whose four bits are the lower ones of the
     /// code (6.1.3).
     ///
-    /// `Refused` has `Status` where the line tells a code with other lower bits.
+    /// `Refused` has `Status` where the line states a code with other lower bits.
     pub(crate) fn ttl(&self, rcode: Rcode) -> Result<u32, Stop>
         ensures ok { IfOk result (λ ttl. ttl ≡ edns_ttl self.now) }
         ensures same { IfOk result (λ _. IsOtherStatus self.now (rcode_number rcode) → ⊥) }
@@ -121,7 +121,7 @@ fn hex_octet(high: u8, low: u8) -> Option<u8>
     Some(high * 16 + low)
 }
 
-/// The response code of more than four bits that a text tells: `BADVERS`, `BADCOOKIE`, or `RCODE` and its number.
+/// The response code of more than four bits that a text states: `BADVERS`, `BADCOOKIE`, or `RCODE` and its number.
 fn status_of(text: &[u8]) -> Option<u16>
     ensures some { IfSome result (λ code. IsStatusText text.now code) }
     ensures none { IsNone result → (code : ℕ) → IsStatusText text.now code → ⊥ }
@@ -193,7 +193,7 @@ fn size_of(text: &[u8]) -> Option<(u16, Option<u16>)>
     Some((size as u16, Some(code)))
 }
 
-/// What the first line of an OPT record tells: `; EDNS: version: 0, flags: do; udp: 1232`. `None` of another line.
+/// What the first line of an OPT record says: `; EDNS: version: 0, flags: do; udp: 1232`. `None` of another line.
 pub(crate) fn edns_of(text: &[u8]) -> Option<EdnsTold>
     ensures some { IfSome result (λ told. IsEdnsLine text.now told) }
     ensures none { IsNone result → (told : EdnsTold) → IsEdnsLine text.now told → ⊥ }

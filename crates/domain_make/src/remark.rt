@@ -119,7 +119,7 @@ fn header_part<'a>(beginning: &[u8], text: &'a [u8]) -> Result<&'a [u8], Stop>
     Ok(rest)
 }
 
-/// What the first line of a header tells.
+/// What the first line of a header says.
 #[derive(Clone, Copy)]
 struct CodesTold {
     opcode: Opcode,
@@ -127,7 +127,7 @@ struct CodesTold {
     id: u16,
 }
 
-/// The codes and the identifier that a text tells, as `QUERY, status: NOERROR, id: 1`.
+/// The codes and the identifier that a text states, as `QUERY, status: NOERROR, id: 1`.
 fn codes_of(alloc: Global, text: &[u8]) -> Result<CodesTold, Stop>
     ensures ok { IfOk result (λ told. AreTold text.now told) }
     ensures err { IfErr result (λ e. IfFault e (LacksCodes text.now)) }
@@ -168,7 +168,7 @@ pub(crate) fn flag<'a>(word: &[u8], text: &'a [u8]) -> (bool, &'a [u8])
     }
 }
 
-/// The flags that the second line of a header tells, and the bit Z.
+/// The flags that the second line of a header states, and the bit Z.
 #[derive(Clone, Copy)]
 pub(crate) struct Flags {
     qr: bool,

@@ -19,8 +19,8 @@ use std::sync::ledger::{Blank, Ledger};
 /// The type of a CNAME record (RFC 1035, 3.2.2).
 const CNAME: u16 = 5;
 
-/// Returns the target of the record if it is a CNAME record of this name. `None` exactly if it isn't one, or its data
-/// isn't one name.
+/// Returns the target of the record if it is a CNAME record of this name. `None` exactly when it isn't one, or its
+/// data isn't one name.
 fn alias_of<'a>(
     found: &ParsedRecord<'a>,
     name: &ParsedName<&'a [u8]>,
@@ -68,8 +68,8 @@ fn first_alias<'a, L: Ledger>(
     None
 }
 
-/// Follows CNAME records from a name to one that has none, with at most so many looks at the answers. `None` exactly
-/// if each look found one.
+/// Follows CNAME records from a name to one that has none, with at most `looks` looks at the answers. `None` exactly
+/// when each look found one.
 fn end_of_chain<'a, L: Ledger>(
     answers: RecordSection<'a>,
     from: ParsedName<&'a [u8]>,

@@ -45,8 +45,8 @@ fn next_is_same<'a>(ours: &mut Parser<'a>, theirs: &mut Parser<'a>, spelled: boo
     are_alike(&our, &their, spelled)
 }
 
-/// Whether the questions of two messages are there, this many in each, and each equals the one with the same number,
-/// and if `spelled`, has a name of the same octets.
+/// Whether two messages have `count` questions each, and each equals the one with the same number. If `spelled`, their
+/// names also have the same octets.
 fn same_questions<'a>(ours: &'a [u8], theirs: &'a [u8], count: u16, spelled: bool) -> bool
     requires ours { 12 ≤ length ours.now }
     requires theirs { 12 ≤ length theirs.now }
@@ -98,7 +98,7 @@ impl<Octs: Octets> Message<Octs> {
     ///
     /// A message with a question missing answers none, and none answers it. A response without a question answers only
     /// a query without one: of a zone transfer in several messages, the later ones can be such responses (RFC 5936,
-    /// 2.2.1), and must be told by their identifier alone.
+    /// 2.2.1), and must be recognized by their identifier alone.
     pub fn is_answer<Other: Octets>(&self, query: &Message<Other>) -> bool
         ensures { IsTrue result ↔ IsAnswerTo (message_octets self.now) (message_octets query.now) }
     {

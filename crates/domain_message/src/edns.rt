@@ -139,10 +139,16 @@ impl<'a> OptRecord<'a> {
     }
 }
 
-/// Returns the OPT record of a message: the only one of its additional section. `None` exactly where none is present.
+/// Returns the OPT record of a message: the only one of its additional section.
 ///
-/// Reads the entries in their order, and returns the first error. A missing entry is `Parse` with its error. A first
-/// OPT record of another owner than the root is `Owner`, and a second OPT record is `Another`.
+/// Returns `None` exactly when none is present.
+///
+/// # Errors
+///
+/// The entries are read in their order, and the first error is returned:
+/// - `Parse` at a missing entry, with its error;
+/// - `Owner` at a first OPT record of another owner than the root;
+/// - `Another` at a second OPT record.
 pub fn opt_of<Octs: Octets>(message: &Message<Octs>) -> Result<Option<OptRecord<'_>>, OptError>
     ensures ok { IfOk result (λ found. IsTheOpt (message_octets message.now) found) }
     ensures err { IfErr result (λ e. HasOptFault (message_octets message.now) e) }

@@ -38,9 +38,13 @@ impl<'a> OptData<'a> {
         OptIter::new(self.octets)
     }
 
-    /// Returns the first option of this code. `None` exactly where the octets are whole options of other codes.
+    /// Returns the first option of this code.
     ///
-    /// `ShortInput` exactly where they end inside an option, and none before it is of the code.
+    /// Returns `None` exactly when the octets are whole options of other codes.
+    ///
+    /// # Errors
+    ///
+    /// Returns `ShortInput` exactly when they end inside an option, and none before it is of the code.
     pub fn first(&self, code: u16) -> Result<Option<EdnsOption<'a>>, ParseError>
         ensures ok { IfOk result (FindsOption code (opt_octets self.now)) }
         ensures err { IfErr result (λ e. IsCutBefore code (opt_octets self.now)) }
@@ -68,8 +72,11 @@ impl<'a> RecordData for OptData<'a> {
     }
 }
 
-/// Takes the rest of the octets, for the type OPT alone. There is no error: options that are cut off are reported when
-/// they are read.
+/// Takes the rest of the octets, for the type OPT alone.
+///
+/// # Errors
+///
+/// There is none: options that are cut off are reported when they are read.
 impl<'a> ParseRecordData<'a> for OptData<'a> {
     ghost use Rattle.domain_message.specs.OptDataViews.{opt_octets};
 

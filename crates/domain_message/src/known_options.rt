@@ -71,9 +71,13 @@ pub struct ExtendedError<'a> {
 }
 
 impl<'a> ExtendedError<'a> {
-    /// The extended error that an option is. `None` exactly where its code isn't 15.
+    /// Returns the extended error that an option is.
     ///
-    /// `ShortInput` exactly where it is, and the option has fewer than two octets.
+    /// Returns `None` exactly when its code isn't 15.
+    ///
+    /// # Errors
+    ///
+    /// Returns `ShortInput` exactly when the code is 15 and the option has fewer than two octets.
     pub fn from_option(option: EdnsOption<'a>) -> Result<Option<ExtendedError<'a>>, ParseError>
         ensures ok { IfOk result (ReadAs 15 SayError option.entry) }
         ensures err { IfErr result (NotReadAs 15 IsErrorFault option.entry) }
@@ -91,7 +95,11 @@ impl<'a> ExtendedError<'a> {
         }))
     }
 
-    /// The text as a string: an error exactly where it isn't UTF-8, as it must be (RFC 8914, 2).
+    /// Returns the text as a string.
+    ///
+    /// # Errors
+    ///
+    /// Returns an error exactly when the text isn't UTF-8, as it must be (RFC 8914, 2).
     pub fn utf8_text(&self) -> Result<&'a str, Utf8Error>
         ensures { MatchResult result (IsText self.now) (λ _. NotText self.now) }
     {
@@ -109,10 +117,17 @@ pub struct Cookie<'a> {
 }
 
 impl<'a> Cookie<'a> {
-    /// The cookies that an option is. `None` exactly where its code isn't 10.
+    /// Returns the cookies that an option is.
     ///
-    /// Where it is: `ShortInput` exactly where the option has fewer than 8 octets, an error of form exactly where it
-    /// has 9 to 15 or more than 40. A server answers either by FORMERR (RFC 7873, 5.2.2).
+    /// Returns `None` exactly when its code isn't 10.
+    ///
+    /// # Errors
+    ///
+    /// If the code is 10, returns:
+    /// - `ShortInput` exactly when the option has fewer than 8 octets;
+    /// - a form error exactly when it has 9 to 15 or more than 40.
+    ///
+    /// A server answers either by FORMERR (RFC 7873, 5.2.2).
     pub fn from_option(option: EdnsOption<'a>) -> Result<Option<Cookie<'a>>, ParseError>
         ensures ok { IfOk result (ReadAs 10 SayCookies option.entry) }
         ensures err { IfErr result (NotReadAs 10 (λ o. IsCookieFault (length o)) option.entry) }
@@ -141,9 +156,12 @@ impl<'a> Cookie<'a> {
         }))
     }
 
-    /// Checks the lengths of these cookies: an option that says them can be written exactly where there is no error.
+    /// Checks the lengths of these cookies: an option that encodes them can be written exactly when there is no error.
     ///
-    /// A form error where the client's hasn't 8 octets, or else the server's has fewer than 8 or more than 32.
+    /// # Errors
+    ///
+    /// Returns a form error if the client's cookie doesn't have 8 octets, or else the server's has fewer than 8 or
+    /// more than 32.
     pub fn check(&self) -> Result<(), ParseError>
         ensures ok { OnOk result (CanBeWritten self.now) }
         ensures err { IfErr result (λ e. CannotBeWritten self.now (refusal e)) }
@@ -174,7 +192,7 @@ fn bits_of_family(family: u16) -> Option<u8>
     }
 }
 
-/// So many bits of an address of this family can be told, or an error of form.
+/// Checks that this many bits of an address of this family can be encoded; else returns a form error.
 fn check_prefix(family: u16, source: u8) -> Result<(), ParseError>
     ensures ok { OnOk result (IsPrefix family source) }
     ensures err { IfErr result (λ e. IsPrefixFault family source (refusal e)) }
@@ -227,7 +245,7 @@ fn ends_in_zeros(address: &[u8], bits: u8) -> bool
     address[usize::from(bits / 8)] % multiple_of(first) == 0
 }
 
-/// Octets are so many bits of an address, or `ShortInput` or an error of form.
+/// Checks that octets are this many bits of an address; else returns `ShortInput` or a form error.
 fn check_address(source: u8, address: &[u8]) -> Result<(), ParseError>
     ensures ok { OnOk result (IsAddress source address.now) }
     ensures err { IfErr result (λ e. IsAddressFault source address.now (refusal e)) }
@@ -259,12 +277,19 @@ pub struct ClientSubnet<'a> {
 }
 
 impl<'a> ClientSubnet<'a> {
-    /// Returns the subnet that an option encodes. `None` if and only if its code isn't 8.
+    /// Returns the subnet that an option encodes.
     ///
-    /// Where the code is 8, returns `ShortInput` if the option has fewer than four octets. Otherwise, returns a form
-    /// error if the family isn't 0, 1 or 2, or more bits are encoded than its addresses have. Otherwise, returns
-    /// `ShortInput` if the address has fewer octets than these bits take. Otherwise, returns a form error if it has
-    /// more, or a bit after them isn't zero. A server answers each of these errors by FORMERR (RFC 7871, 6).
+    /// Returns `None` if and only if its code isn't 8.
+    ///
+    /// # Errors
+    ///
+    /// If the code is 8, returns the first of these that holds:
+    /// - `ShortInput` if the option has fewer than four octets;
+    /// - a form error if the family isn't 0, 1 or 2, or more bits are encoded than its addresses have;
+    /// - `ShortInput` if the address has fewer octets than these bits take;
+    /// - a form error if it has more, or a bit after them isn't zero.
+    ///
+    /// A server answers each of these errors by FORMERR (RFC 7871, 6).
     pub fn from_option(option: EdnsOption<'a>) -> Result<Option<ClientSubnet<'a>>, ParseError>
         ensures ok { IfOk result (ReadAs 8 SaySubnet option.entry) }
         ensures err { IfErr result (NotReadAs 8 IsSubnetFault option.entry) }
@@ -292,9 +317,12 @@ impl<'a> ClientSubnet<'a> {
         }))
     }
 
-    /// Returns the address cut to the bits that are encoded: its octets that are whole in them, and after these, if
-    /// some of its bits are, one whose other bits are zero (RFC 7871, 6). What the address has beyond them is left
-    /// out.
+    /// Returns the address cut to the bits that are encoded.
+    ///
+    /// These are its octets that are whole in them, and after these, if some of its bits are, one whose other bits are
+    /// zero (RFC 7871, 6). What the address has beyond them is left out.
+    ///
+    /// # Errors
     ///
     /// Returns a form error if and only if the family isn't 0, 1 or 2, or more bits are encoded than its addresses
     /// have. Otherwise, returns `ShortInput` if and only if the address has fewer octets than these bits take.

@@ -21,7 +21,11 @@ pub struct Message<Octs: Octets> {
 impl<Octs: Octets + Drop> Message<Octs> {
     ghost use Rattle.domain_message.specs.Messages.{message_holder};
 
-    /// Returns the message of these octets. `ShortMessage` exactly if they are fewer than twelve.
+    /// Returns the message of these octets.
+    ///
+    /// # Errors
+    ///
+    /// Returns `ShortMessage` if and only if there are fewer than twelve.
     pub fn from_octets(octets: Octs) -> Result<Message<Octs>, ShortMessage>
         ensures ok { IfOk result (λ it. message_holder it ≡ octets) }
         ensures short { IsErr result ↔ (length (Octs.octets octets) < 12) }
@@ -97,7 +101,7 @@ impl<Octs: Octets> Message<Octs> {
         Question::parse(&mut parser)
     }
 
-    /// Returns the first question. `None` exactly if the header counts none, or it is missing.
+    /// Returns the first question. `None` exactly when the header counts none, or it is missing.
     pub fn first_question(&self) -> Option<Question<ParsedName<&[u8]>>>
         ensures some { IfSome result (λ q. CountsQuestions self.now × StandsFirst self.now q) }
         ensures none { IsNone result → CountsNoQuestion self.now ⊎ LacksFirstQuestion self.now }
@@ -111,8 +115,12 @@ impl<Octs: Octets> Message<Octs> {
         }
     }
 
-    /// Returns the question if the header counts one; else the error is "no question" or "multiple questions", or says
-    /// why the question is missing.
+    /// Returns the question if the header counts one.
+    ///
+    /// # Errors
+    ///
+    /// Returns "no question" or "multiple questions" if the header counts another number. Otherwise, returns the error
+    /// that says why the question is missing.
     pub fn sole_question(&self) -> Result<Question<ParsedName<&[u8]>>, ParseError>
         ensures ok { IfOk result (λ q. CountsOneQuestion self.now × StandsFirst self.now q) }
         ensures err { IfErr result (λ e. NoSoleQuestion (message_octets self.now) e) }
@@ -130,7 +138,11 @@ impl<Octs: Octets> Message<Octs> {
         }
     }
 
-    /// The records of the answer section, which follows the questions. The error says why a question is missing.
+    /// Returns the records of the answer section, which follows the questions.
+    ///
+    /// # Errors
+    ///
+    /// Returns an error that says why a question is missing.
     pub fn answer(&self) -> Result<RecordSection<'_>, ParseError>
         ensures ok { IfOk result (IsAnswerSection self.now) }
         ensures err { IfErr result (λ e. NoQuestions (message_octets self.now) e) }
@@ -138,8 +150,11 @@ impl<Octs: Octets> Message<Octs> {
         self.question().answer()
     }
 
-    /// The records of the authority section, which follows the answers. The error says why a question or a record
-    /// before them is missing.
+    /// Returns the records of the authority section, which follows the answers.
+    ///
+    /// # Errors
+    ///
+    /// Returns an error that says why a question or a record before them is missing.
     pub fn authority(&self) -> Result<RecordSection<'_>, ParseError>
         ensures ok { IfOk result (IsAuthoritySection self.now) }
         ensures err { IfErr result (λ e. NoAnswers (message_octets self.now) e) }
@@ -155,8 +170,11 @@ impl<Octs: Octets> Message<Octs> {
         }
     }
 
-    /// The records of the additional section, which follows the authority section. The error says why a question or a
-    /// record before them is missing.
+    /// Returns the records of the additional section, which follows the authority section.
+    ///
+    /// # Errors
+    ///
+    /// Returns an error that says why a question or a record before them is missing.
     pub fn additional(&self) -> Result<RecordSection<'_>, ParseError>
         ensures ok { IfOk result (IsAdditionalSection self.now) }
         ensures err { IfErr result (λ e. NoAuthority (message_octets self.now) e) }

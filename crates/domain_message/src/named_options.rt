@@ -15,15 +15,15 @@ use crate::option_codes::{
 use crate::transport_options::{Padding, TcpKeepalive};
 use domain_wire::ParseError;
 
-/// Each call returns what the first option of its code says, or `None` where no option is of that code. Other options
-/// of the code are ignored, as RFC 7873, 5.2, asks for cookies: `options` returns them, too.
+/// Each call returns what the first option of its code says, or `None` if no option is of that code.
 ///
-/// # Errors
-///
-/// `ShortInput` where the options end inside one before the first of the code. Where this one isn't of its form, the
-/// error that `from_option` of its type returns.
+/// Other options of the code are ignored, as RFC 7873, 5.2, asks for cookies: `options` returns them, too.
 impl<'a> OptRecord<'a> {
-    /// The identifier of the name server (RFC 5001).
+    /// Returns the identifier of the name server (RFC 5001).
+    ///
+    /// # Errors
+    ///
+    /// Returns `ShortInput` if the options end inside one before the first of the code.
     #[tactic(auto, using(crate::proofs::NamedOptions::says_option, crate::proofs::NamedOptions::fails_cut))]
     pub fn nsid(&self) -> Result<Option<Nsid<'a>>, ParseError>
         ensures ok { IfOk result (FirstSays 3 SayNsid (opt_octets (opt_data self.now))) }
@@ -36,7 +36,12 @@ impl<'a> OptRecord<'a> {
         }
     }
 
-    /// The client's subnet (RFC 7871).
+    /// Returns the client's subnet (RFC 7871).
+    ///
+    /// # Errors
+    ///
+    /// Returns `ShortInput` if the options end inside one before the first of the code. If this one isn't of its form,
+    /// returns the error of [`ClientSubnet::from_option`].
     #[tactic(auto, using(crate::proofs::NamedOptions::says_first, crate::proofs::NamedOptions::fails_first, crate::proofs::NamedOptions::fails_cut))]
     pub fn client_subnet(&self) -> Result<Option<ClientSubnet<'a>>, ParseError>
         ensures ok { IfOk result (FirstSays 8 SaySubnet (opt_octets (opt_data self.now))) }
@@ -49,7 +54,12 @@ impl<'a> OptRecord<'a> {
         }
     }
 
-    /// The cookies (RFC 7873).
+    /// Returns the cookies (RFC 7873).
+    ///
+    /// # Errors
+    ///
+    /// Returns `ShortInput` if the options end inside one before the first of the code. If this one isn't of its form,
+    /// returns the error of [`Cookie::from_option`].
     #[tactic(auto, using(crate::proofs::NamedOptions::says_first, crate::proofs::NamedOptions::fails_first, crate::proofs::NamedOptions::fails_cut))]
     pub fn cookie(&self) -> Result<Option<Cookie<'a>>, ParseError>
         ensures ok { IfOk result (FirstSays 10 SayCookies (opt_octets (opt_data self.now))) }
@@ -63,7 +73,12 @@ impl<'a> OptRecord<'a> {
         }
     }
 
-    /// The timeout of a connection over TCP (RFC 7828).
+    /// Returns the timeout of a connection over TCP (RFC 7828).
+    ///
+    /// # Errors
+    ///
+    /// Returns `ShortInput` if the options end inside one before the first of the code. If this one isn't of its form,
+    /// returns the error of [`TcpKeepalive::from_option`].
     #[tactic(auto, using(crate::proofs::NamedOptions::says_first, crate::proofs::NamedOptions::fails_first, crate::proofs::NamedOptions::fails_cut))]
     pub fn tcp_keepalive(&self) -> Result<Option<TcpKeepalive>, ParseError>
         ensures ok { IfOk result (FirstSays 11 SayTimeout (opt_octets (opt_data self.now))) }
@@ -76,7 +91,11 @@ impl<'a> OptRecord<'a> {
         }
     }
 
-    /// The padding (RFC 7830).
+    /// Returns the padding (RFC 7830).
+    ///
+    /// # Errors
+    ///
+    /// Returns `ShortInput` if the options end inside one before the first of the code.
     #[tactic(auto, using(crate::proofs::NamedOptions::says_option, crate::proofs::NamedOptions::fails_cut))]
     pub fn padding(&self) -> Result<Option<Padding<'a>>, ParseError>
         ensures ok { IfOk result (FirstSays 12 SayPadding (opt_octets (opt_data self.now))) }
@@ -89,7 +108,14 @@ impl<'a> OptRecord<'a> {
         }
     }
 
-    /// The extended error (RFC 8914). A response can have several, of which this is the first.
+    /// Returns the extended error (RFC 8914).
+    ///
+    /// A response can have several, of which this is the first.
+    ///
+    /// # Errors
+    ///
+    /// Returns `ShortInput` if the options end inside one before the first of the code. If this one isn't of its form,
+    /// returns the error of [`ExtendedError::from_option`].
     #[tactic(auto, using(crate::proofs::NamedOptions::says_first, crate::proofs::NamedOptions::fails_first, crate::proofs::NamedOptions::fails_cut))]
     pub fn extended_error(&self) -> Result<Option<ExtendedError<'a>>, ParseError>
         ensures ok { IfOk result (FirstSays 15 SayError (opt_octets (opt_data self.now))) }

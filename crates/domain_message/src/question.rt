@@ -129,9 +129,12 @@ fn type_and_class_octets(rtype: Rtype, class: Class) -> [u8; 4]
 }
 
 impl<'a, N: AbsoluteLabels<'a>> Question<N> {
-    /// Appends the question, or nothing: the name, which the target may compress, then the type and the class. Fails
-    /// only if the question, with a name as the target may then write it, exceeds the spare capacity. The target's
-    /// octets, and what it remembers, are then unchanged.
+    /// Appends the question, or nothing: the name, which the target may compress, then the type and the class.
+    ///
+    /// # Errors
+    ///
+    /// Returns the target's error only if the question, with a name as the target may then write it, exceeds the spare
+    /// capacity. The target's octets, and what it remembers, are then unchanged.
     pub fn compose<Target: Composer>(
         &'a self,
         target: &mut Target,

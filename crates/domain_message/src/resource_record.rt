@@ -221,10 +221,17 @@ impl<Octs: Octets, D: RecordData + fmt::Display> fmt::Display for Record<ParsedN
 }
 
 impl<'a, N: AbsoluteLabels<'a>, D: ComposeRecordData> Record<N, D> {
-    /// Appends the record: owner, type, class, TTL, the length of the data, and the data. Names are as the target
-    /// composes them. Returns `Long` only if the data has more than 65,535 octets as the target writes it. Returns
-    /// `Append` only if the record exceeds the spare capacity, with its owner's name as the target can then write it.
-    /// After an error, the target's octets, and what it remembers, are unchanged.
+    /// Appends the record: owner, type, class, TTL, the length of the data, and the data.
+    ///
+    /// Names are as the target composes them.
+    ///
+    /// # Errors
+    ///
+    /// - `Long` only if the data has more than 65,535 octets as the target writes it.
+    /// - `Append` only if the record exceeds the spare capacity, with its owner's name as the target can then write
+    ///   it.
+    ///
+    /// The target's octets, and what it remembers, are then unchanged.
     pub fn compose<Target: Composer>(
         &'a self,
         target: &mut Target,
@@ -267,14 +274,18 @@ impl<'a, N: AbsoluteLabels<'a>, D: ComposeRecordData> Record<N, D> {
 }
 
 impl<'a, N: AbsoluteLabels<'a>, D: CanonicalRecordData> Record<N, D> {
-    /// Appends the canonical form of the record with this TTL, or nothing (RFC 4034, 6.2). No name is compressed, the
-    /// owner's is in lowercase, and those in the data where the type asks for it. The TTL is the original one, which
-    /// an RRSIG record states (RFC 4034, 3.1.4), and not what remains of it in a cache.
+    /// Appends the canonical form of the record with this TTL, or nothing (RFC 4034, 6.2).
+    ///
+    /// No name is compressed, the owner's is in lowercase, and those in the data if the type asks for it. The TTL is
+    /// the original one, which an RRSIG record states (RFC 4034, 3.1.4), and not what remains of it in a cache.
+    ///
+    /// # Errors
     ///
     /// Returns `UnknownNames` if and only if the type has names in lowercase and it isn't known where they are in the
-    /// data ([`CanonicalRecordData::knows_names`]). Otherwise, returns `Append` only where the form exceeds the spare
-    /// capacity, and `Long` only where the data has more than 65,535 octets. After an error, the target's octets, and
-    /// what it remembers, are unchanged.
+    /// data ([`CanonicalRecordData::knows_names`]). Otherwise, returns `Append` only if the form exceeds the spare
+    /// capacity, and `Long` only if the data has more than 65,535 octets.
+    ///
+    /// The target's octets, and what it remembers, are then unchanged.
     pub fn compose_canonical<Target: Composer>(
         &'a self,
         original_ttl: Ttl,

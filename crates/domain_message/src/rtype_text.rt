@@ -11,14 +11,14 @@ use domain_header::rtypes::rtypes;
 use domain_rdata::Rtype;
 use std::fmt;
 
-/// Returns the mnemonic of a type. `None` exactly if the table has none for it.
+/// Returns the mnemonic of a type. `None` exactly when the table has none for it.
 pub fn rtype_mnemonic(rtype: Rtype) -> Option<&'static str>
     ensures { option_map (λ word. word.now) result ≡ word_of rtype_rows (rtype_number rtype) }
 {
     mnemonic_word(rtypes(), rtype.to_int())
 }
 
-/// Returns the type of this mnemonic, ignoring ASCII case. `None` exactly if the table has no such word.
+/// Returns the type of this mnemonic, ignoring ASCII case. `None` exactly when the table has no such word.
 pub fn rtype_from_mnemonic(word: &str) -> Option<Rtype>
     ensures { NumberOf word.now rtype_rows (option_map rtype_number result) }
 {
@@ -29,7 +29,7 @@ pub fn rtype_from_mnemonic(word: &str) -> Option<Rtype>
 }
 
 /// Returns the type that this text names: by its mnemonic, or by `TYPE` immediately followed by its number in decimal
-/// digits (RFC 3597, 5), ignoring ASCII case. `None` exactly if it names none.
+/// digits (RFC 3597, 5), ignoring ASCII case. `None` exactly when it names none.
 pub fn rtype_from_text(text: &str) -> Option<Rtype>
     ensures { Named rtype_rows (codes "TYPE") text.now (option_map rtype_number result) }
 {

@@ -84,7 +84,11 @@ impl<'a> QuestionSection<'a> {
         self.parser.pos()
     }
 
-    /// Skips the remaining questions, and returns the answer section. The error says why one of them is missing.
+    /// Skips the remaining questions, and returns the answer section.
+    ///
+    /// # Errors
+    ///
+    /// Returns an error that says why one of them is missing.
     pub fn answer(self) -> Result<RecordSection<'a>, ParseError>
         ensures ok { IfOk result (BeginsAfterQuestions self.entry) }
         ensures err { IfErr result (MissesQuestion self.entry) }
@@ -175,7 +179,7 @@ impl<'a> RecordSection<'a> {
         self.parser.pos()
     }
 
-    /// Returns a parser at the next record, and how many records are left: none after an error.
+    /// Returns a parser at the next record, and how many records remain: none after an error.
     pub(crate) fn left(self) -> (Parser<'a>, u16)
         ensures message { message result.0 ≡ records_message self.entry }
         ensures offset { position result.0 ≡ records_offset self.entry }
@@ -194,8 +198,13 @@ impl<'a> RecordSection<'a> {
         self.section
     }
 
-    /// Skips the remaining records, and returns the next section. After the last section, returns `None` and reads no
-    /// record. The error says why one of the records is missing.
+    /// Skips the remaining records, and returns the next section.
+    ///
+    /// After the last section, returns `None` and reads no record.
+    ///
+    /// # Errors
+    ///
+    /// Returns an error that says why one of the records is missing.
     pub fn next_section(self) -> Result<Option<RecordSection<'a>>, ParseError>
         ensures none { IfOk result (λ read. IsNone read ↔ IsLastSection self.entry) }
         ensures ok { IfOk result (λ read. IfSome read (BeginsAfterRecords self.entry)) }
@@ -218,7 +227,11 @@ impl<'a> RecordSection<'a> {
         Ok(Some(RecordSection::at(parser, section)))
     }
 
-    /// Returns the last of the remaining records, `None` if none remain. The error says why one of them is missing.
+    /// Returns the last of the remaining records, `None` if none remain.
+    ///
+    /// # Errors
+    ///
+    /// Returns an error that says why one of them is missing.
     pub fn last_record(self) -> Result<Option<ParsedRecord<'a>>, ParseError>
         ensures some { IfOk result (λ read. IfSome read (IsLastRecord self.entry)) }
         ensures none { IfOk result

@@ -32,11 +32,14 @@ pub struct Sig0<'a> {
 }
 
 impl<'a> Sig0<'a> {
-    /// The fields that the data of a SIG record says. The type that it covers, its labels and its TTL are skipped:
-    /// they are 0 in SIG(0) records.
+    /// Returns the fields that the data of a SIG record encodes.
     ///
-    /// `ShortInput` where there are fewer than 18 octets, else the error of the signer's name, which isn't compressed,
-    /// as of [`Name::parse`].
+    /// The type that it covers, its labels and its TTL are skipped: they are 0 in SIG(0) records.
+    ///
+    /// # Errors
+    ///
+    /// Returns `ShortInput` if there are fewer than 18 octets. Otherwise, returns the error of the signer's name,
+    /// which isn't compressed, as [`Name::parse`] does.
     pub fn from_octets(octets: &'a [u8]) -> Result<Sig0<'a>, ParseError>
         ensures ok { IfOk result (SaySig0 octets.now) }
         ensures err { IfErr result (NoSig0 octets.now) }
@@ -66,11 +69,15 @@ fn is_sig0(record: &ParsedRecord<'_>) -> bool
     record.rtype().to_int() == SIG && octets.len() >= 2 && number_of_16_bits(octets, 0) == 0
 }
 
-/// Returns the SIG(0) record of a message: the last record of its additional section, where that is a SIG record that
-/// covers no type (RFC 2931, 3). `None` exactly where the last record is another one, or none is there.
-/// [`Sig0::from_octets`] reads its data. Neither its owner, its class nor its TTL is checked, nor its signature.
+/// Returns the SIG(0) record of a message: the last record of its additional section, if that is a SIG record that
+/// covers no type (RFC 2931, 3).
 ///
-/// The error is that of the first entry that is missing.
+/// Returns `None` exactly when the last record is another one, or none is present. [`Sig0::from_octets`] reads its
+/// data. Neither its owner, its class nor its TTL is checked, nor its signature.
+///
+/// # Errors
+///
+/// Returns the error of the first entry that is missing.
 pub fn sig0_of<Octs: Octets>(
     message: &Message<Octs>,
 ) -> Result<Option<ParsedRecord<'_>>, ParseError>

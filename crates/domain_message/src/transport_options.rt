@@ -16,10 +16,14 @@ pub struct TcpKeepalive {
 }
 
 impl TcpKeepalive {
-    /// The timeout that an option encodes. `None` exactly where its code isn't 11.
+    /// Returns the timeout that an option encodes.
     ///
-    /// Where it is: `ShortInput` exactly where the option has one octet, a form error exactly where it has more than
-    /// two.
+    /// Returns `None` exactly when its code isn't 11.
+    ///
+    /// # Errors
+    ///
+    /// If the code is 11, returns `ShortInput` exactly when the option has one octet, and a form error exactly when it
+    /// has more than two.
     pub fn from_option(option: EdnsOption<'_>) -> Result<Option<TcpKeepalive>, ParseError>
         ensures ok { IfOk result (ReadAs 11 SayTimeout option.entry) }
         ensures err { IfErr result (NotReadAs 11 IsTimeoutFault option.entry) }

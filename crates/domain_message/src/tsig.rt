@@ -76,7 +76,11 @@ impl<'a> TsigData<'a> {
         self.octets
     }
 
-    /// The fields, as [`Tsig::from_octets`] reads them.
+    /// Returns the fields, like [`Tsig::from_octets`].
+    ///
+    /// # Errors
+    ///
+    /// Returns the errors of [`Tsig::from_octets`].
     pub fn fields(&self) -> Result<Tsig<'a>, ParseError>
         ensures ok { IfOk result (SayTsig (tsig_octets self.now)) }
         ensures err { IfErr result (IsTsigFault (tsig_octets self.now)) }
@@ -93,8 +97,11 @@ impl<'a> RecordData for TsigData<'a> {
     }
 }
 
-/// Takes the rest of the octets, for the type TSIG alone. There is no error: data of another form is reported when its
-/// fields are read.
+/// Takes the rest of the octets, for the type TSIG alone.
+///
+/// # Errors
+///
+/// There is none: data of another form is reported when its fields are read.
 impl<'a> ParseRecordData<'a> for TsigData<'a> {
     ghost use Rattle.domain_message.specs.TsigRecords.{tsig_octets};
 
@@ -126,12 +133,16 @@ impl<'a> ParseRecordData<'a> for TsigData<'a> {
 }
 
 /// Returns the TSIG record of a message: the last record of its additional section, and the only TSIG record there.
-/// `None` exactly where none is present. Its owner is the name of the key. Neither its class nor its TTL is checked,
-/// nor its signature.
 ///
-/// Reads the entries in their order, and returns the first error. A missing entry is `Parse` with its error. A TSIG
-/// record that others follow is `NotLast`, another TSIG record too: the message is dropped, and the query answered by
-/// FORMERR (RFC 8945, 5.1). Records after it aren't read.
+/// Returns `None` exactly when none is present. Its owner is the name of the key. Neither its class nor its TTL is
+/// checked, nor its signature.
+///
+/// # Errors
+///
+/// The entries are read in their order, and the first error is returned:
+/// - `Parse` at a missing entry, with its error;
+/// - `NotLast` at a TSIG record that others follow, another TSIG record too. The message is dropped, and the query
+///   answered by FORMERR (RFC 8945, 5.1). Records after it aren't read.
 pub fn tsig_of<Octs: Octets>(
     message: &Message<Octs>,
 ) -> Result<Option<Record<ParsedName<&[u8]>, TsigData<'_>>>, TsigError>

@@ -60,10 +60,12 @@ pub(crate) fn split_name<'a>(octets: &'a [u8]) -> Result<(Name<&'a [u8]>, &'a [u
 }
 
 impl<'a> Tsig<'a> {
-    /// The fields that the data of a TSIG record says.
+    /// Returns the fields that the data of a TSIG record encodes.
     ///
-    /// The error is the first from the left: that of the algorithm's name, which isn't compressed, as of
-    /// [`Name::parse`]; `ShortInput` where the octets end before the last field does; and else "trailing data".
+    /// # Errors
+    ///
+    /// Returns the first error from the left: that of the algorithm's name, which isn't compressed, as of
+    /// [`Name::parse`]; `ShortInput` if the octets end before the last field does; and else "trailing data".
     pub fn from_octets(octets: &'a [u8]) -> Result<Tsig<'a>, ParseError>
         ensures ok { IfOk result (SayTsig octets.now) }
         ensures err { IfErr result (IsTsigFault octets.now) }

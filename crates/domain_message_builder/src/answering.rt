@@ -33,15 +33,15 @@ fn answer_header(query: Header, rcode: Rcode) -> Header
 impl<Target: Composer> MessageBuilder<Target> {
     ghost use Rattle.domain_message_builder.specs.declared.error.PushError.TheVariants.{Count, Order};
 
-    /// Begins an answer to a query: sets the header, and pushes the query's first question unchanged.
+    /// Starts an answer to a query: sets the header, and pushes the query's first question unchanged.
     ///
     /// The header has the identifier, the opcode and the bits RD and CD of the query. QR is set, the response code is
-    /// this one, and all other bits are clear. The question's name keeps its case. Where the query has no question, or
-    /// it can't be read, none is pushed, and nothing is refused.
+    /// `rcode`, and all other bits are clear. The question's name keeps its case. If the query has no question, or it
+    /// can't be read, none is pushed, and there is no error.
     ///
     /// # Errors
     ///
-    /// Those of `push_question`, in its order. Nothing is then changed.
+    /// Returns the errors of `push_question`, in its order. Nothing is then changed.
     pub fn start_answer<Octs: Octets>(
         &mut self,
         query: &Message<Octs>,

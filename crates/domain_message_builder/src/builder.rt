@@ -47,10 +47,12 @@ impl<Target: Composer + EmptyBuilder + Drop> MessageBuilder<Target> {
     ghost use Rattle.domain_message_builder.specs.Pushes.{IsBegun};
     ghost use Rattle.domain_message_builder.specs.Views.{target_of};
 
-    /// Begins a message of at most 65,535 octets in a new target, as `from_target` does in an empty one.
+    /// Starts a message of at most 65,535 octets in a new target, as `from_target` does in an empty one.
     ///
-    /// `ShortBuf` only where twelve octets, the header's, exceed the room that is fixed for the target's type, or,
-    /// where none is fixed, an allocation failed.
+    /// # Errors
+    ///
+    /// Returns `ShortBuf` only if the twelve octets of the header exceed the room that is fixed for the target's type,
+    /// or, if none is fixed, an allocation failed.
     pub fn new(alloc: Global) -> Result<Self, ShortBuf>
         ensures ok { IfOk result (λ it. IsBegun Target.compresses 65535 (state it)) }
         ensures written { IfOk result (λ it. BeginsOnNew Target.Composer (target_of it)) }
@@ -70,7 +72,12 @@ impl<Target: Composer + Drop> MessageBuilder<Target> {
     ghost use Rattle.domain_message_builder.specs.Views.{target_of};
     ghost use Rattle.domain_message_builder.specs.declared.error.StartError.TheVariants.{NotEmpty, ShortLimit};
 
-    /// Begins a message of at most 65,535 octets, as `with_limit` does.
+    /// Starts a message of at most 65,535 octets, like `with_limit`.
+    ///
+    /// # Errors
+    ///
+    /// Returns `NotEmpty` if and only if the target isn't empty. Otherwise, returns `Append` only if the target has no
+    /// room for the twelve octets of the header. The target is then dropped.
     pub fn from_target(target: Target) -> Result<Self, StartError<Target::AppendError>>
         ensures ok { IfOk result (λ it. IsBegun Target.compresses 65535 (state it)) }
         ensures written { IfOk result (λ it. BeginsOn Target.Composer target (target_of it)) }
@@ -85,11 +92,13 @@ impl<Target: Composer + Drop> MessageBuilder<Target> {
         MessageBuilder::with_limit(target, 65535)
     }
 
-    /// Begins a message of at most `limit` octets, with a header of zeros.
+    /// Starts a message of at most `limit` octets, with a header of zeros.
+    ///
+    /// # Errors
     ///
     /// Returns `NotEmpty` if and only if the target isn't empty. Otherwise, returns `ShortLimit` if and only if the
     /// limit is below the twelve octets of the header. Otherwise, returns `Append` only if the target has no room for
-    /// these octets. After an error, the target is dropped.
+    /// these octets. The target is then dropped.
     pub fn with_limit(target: Target, limit: u16) -> Result<Self, StartError<Target::AppendError>>
         ensures ok { IfOk result (λ it. IsBegun Target.compresses limit (state it)) }
         ensures written { IfOk result (λ it. BeginsOn Target.Composer target (target_of it)) }
@@ -179,9 +188,12 @@ impl<Target: Composer> MessageBuilder<Target> {
         self.reserved
     }
 
-    /// Sets this many octets aside, and those no longer that were: entries are pushed up to the limit less these.
+    /// Sets this many octets aside, in place of those that were set aside before: entries are pushed up to the limit
+    /// less these.
     ///
-    /// `Limit` exactly if the message has no room for them. Nothing is then changed.
+    /// # Errors
+    ///
+    /// Returns `Limit` if and only if the message has no room for them. Nothing is then changed.
     pub fn reserve(&mut self, octets: u16) -> Result<(), PushError<Target::AppendError>>
         ensures ok { OnOk result (state self.new ≡ with_reserved octets (state self.old)) }
         ensures target { target_of self.new ≡ target_of self.old }
@@ -199,10 +211,13 @@ impl<Target: Composer> MessageBuilder<Target> {
 
     /// Pushes a question, or nothing.
     ///
+    /// # Errors
+    ///
     /// Returns `Order` if and only if a record was pushed. Otherwise, returns `Count` if and only if there are 65,535
     /// questions. Otherwise, returns `Limit` only if octets that can be composed for the question exceed the limit,
-    /// less what is set aside, and `Append` only if they exceed the target's room. After an error, nothing has
-    /// changed, including what the target remembers.
+    /// less what is set aside, and `Append` only if they exceed the target's room.
+    ///
+    /// Nothing is then changed, including what the target remembers.
     pub fn push_question<'a, N: AbsoluteLabels<'a>>(
         &mut self,
         question: &'a Question<N>,
@@ -240,11 +255,14 @@ impl<Target: Composer> MessageBuilder<Target> {
 
     /// Pushes a record into a section, or nothing.
     ///
+    /// # Errors
+    ///
     /// Returns `Order` if and only if a later section has a record. Otherwise, returns `Count` if and only if this
     /// section has 65,535 records. Otherwise, returns `Long` only if data that can be composed for the record has over
     /// 65,535 octets. Returns `Limit` only if octets that can be composed for the record exceed the limit, less what
-    /// is set aside, and `Append` only if they exceed the target's room. After an error, nothing has changed,
-    /// including what the target remembers.
+    /// is set aside, and `Append` only if they exceed the target's room.
+    ///
+    /// Nothing is then changed, including what the target remembers.
     pub fn push<'a, N: AbsoluteLabels<'a>, D: ComposeRecordData>(
         &mut self,
         section: Section,

@@ -57,7 +57,14 @@ impl<Target: Composer> MarkedBuilder<Target> {
         &self.builder
     }
 
-    /// Pushes a question, or nothing, as `push_question` of a `MessageBuilder`. The mark stays.
+    /// Pushes a question, or nothing, like `push_question` of a `MessageBuilder`.
+    ///
+    /// The mark is unchanged.
+    ///
+    /// # Errors
+    ///
+    /// Returns the errors of `push_question` of a `MessageBuilder`. Nothing is then changed, including what the target
+    /// remembers.
     pub fn push_question<'a, N: AbsoluteLabels<'a>>(
         &mut self,
         question: &'a Question<N>,
@@ -88,7 +95,14 @@ impl<Target: Composer> MarkedBuilder<Target> {
         self.builder.push_question(question)
     }
 
-    /// Pushes a record into a section, or nothing, as `push` of a `MessageBuilder`. The mark stays.
+    /// Pushes a record into a section, or nothing, like `push` of a `MessageBuilder`.
+    ///
+    /// The mark is unchanged.
+    ///
+    /// # Errors
+    ///
+    /// Returns the errors of `push` of a `MessageBuilder`. Nothing is then changed, including what the target
+    /// remembers.
     pub fn push<'a, N: AbsoluteLabels<'a>, D: ComposeRecordData>(
         &mut self,
         section: Section,
@@ -122,7 +136,14 @@ impl<Target: Composer> MarkedBuilder<Target> {
         self.builder.push(section, resource)
     }
 
-    /// Pushes the records of an RRset, or none, as `push_rrset` of a `MessageBuilder`. The mark stays.
+    /// Pushes the records of an RRset, or none, like `push_rrset` of a `MessageBuilder`.
+    ///
+    /// The mark is unchanged.
+    ///
+    /// # Errors
+    ///
+    /// Returns the errors of `push_rrset` of a `MessageBuilder`. Nothing is then changed, including what the target
+    /// remembers.
     pub fn push_rrset<'a, N: AbsoluteLabels<'a>, D: ComposeRecordData>(
         &mut self,
         section: Section,

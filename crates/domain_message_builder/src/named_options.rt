@@ -19,11 +19,14 @@ impl<Octs: OctetsBuilder> OptBuilder<Octs> {
     ghost use Rattle.domain_message_builder.specs.Opt.{with_option};
     ghost use Rattle.domain_message_builder.specs.OptViews.{opt_of, options_room};
 
-    /// Pushes an identifier of a name server, or nothing (RFC 5001, 2.3). A query asks for one by an identifier that
-    /// has no octets.
+    /// Pushes an identifier of a name server, or nothing (RFC 5001, 2.3).
     ///
-    /// `Long` exactly if the options would have more than 65,535 octets, else `Append` only if they exceed the room
-    /// for them. Nothing is then changed, as after each error of the calls below.
+    /// A query asks for one by an identifier that has no octets.
+    ///
+    /// # Errors
+    ///
+    /// Returns `Long` if and only if the options would have more than 65,535 octets. Otherwise, returns `Append` only
+    /// if they exceed the room for them. Nothing is then changed.
     pub fn push_nsid(&mut self, nsid: Nsid<'_>) -> Result<(), PushOptionError<Octs::AppendError>>
         ensures ok { OnOk result
             (opt_of self.new ≡ with_option 3 (nsid_octets nsid.entry) (opt_of self.old)) }
@@ -34,10 +37,15 @@ impl<Octs: OctetsBuilder> OptBuilder<Octs> {
         self.push_parts(NAME_SERVER_IDENTIFIER, &[], &[], nsid.identifier)
     }
 
-    /// Pushes a client's subnet, or nothing (RFC 7871, 6). The address may have more octets than the bits that are
-    /// encoded: it is cut to these, and the other bits of its last octet are written as zeros.
+    /// Pushes a client's subnet, or nothing (RFC 7871, 6).
     ///
-    /// `Form` exactly where [`ClientSubnet::cut_address`] has an error, else as `push_nsid`.
+    /// The address may have more octets than the bits that are encoded: it is cut to these, and the other bits of its
+    /// last octet are written as zeros.
+    ///
+    /// # Errors
+    ///
+    /// Returns `Form` exactly when [`ClientSubnet::cut_address`] has an error, else the errors of `push_nsid`. Nothing
+    /// is then changed.
     pub fn push_client_subnet(
         &mut self,
         subnet: ClientSubnet<'_>,
@@ -63,7 +71,10 @@ impl<Octs: OctetsBuilder> OptBuilder<Octs> {
 
     /// Pushes cookies, or nothing (RFC 7873, 4).
     ///
-    /// `Form` exactly where [`Cookie::check`] has an error, else as `push_nsid`.
+    /// # Errors
+    ///
+    /// Returns `Form` exactly when [`Cookie::check`] has an error, else the errors of `push_nsid`. Nothing is then
+    /// changed.
     pub fn push_cookie(
         &mut self,
         cookie: Cookie<'_>,
@@ -84,8 +95,11 @@ impl<Octs: OctetsBuilder> OptBuilder<Octs> {
         }
     }
 
-    /// Pushes how long a connection over TCP stays open, or nothing (RFC 7828, 3.1). The errors are those of
-    /// `push_nsid`.
+    /// Pushes how long a connection over TCP stays open, or nothing (RFC 7828, 3.1).
+    ///
+    /// # Errors
+    ///
+    /// Returns the errors of `push_nsid`. Nothing is then changed.
     pub fn push_tcp_keepalive(
         &mut self,
         keepalive: TcpKeepalive,
@@ -104,7 +118,9 @@ impl<Octs: OctetsBuilder> OptBuilder<Octs> {
 
     /// Pushes an extended error, or nothing (RFC 8914, 2).
     ///
-    /// `Form` exactly where its text isn't UTF-8, else as `push_nsid`.
+    /// # Errors
+    ///
+    /// Returns `Form` exactly when its text isn't UTF-8, else the errors of `push_nsid`. Nothing is then changed.
     pub fn push_extended_error(
         &mut self,
         error: ExtendedError<'_>,

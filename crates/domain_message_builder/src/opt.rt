@@ -10,7 +10,7 @@ use domain_name::Name;
 use domain_rdata::{ComposeRdataError, LongRecordData, Rtype, UnknownRecordData};
 use octseq::{Octets, OctetsBuilder, Truncate};
 
-/// The TTL that tells these (6.1.3).
+/// The TTL that encodes these (6.1.3).
 fn flags_ttl(rcode_ext: u8, version: u8, dnssec_ok: bool) -> u32
     ensures { result ≡ packed_opt_ttl rcode_ext version dnssec_ok }
 {
@@ -33,9 +33,12 @@ impl<Octs: Octets + Drop> OptBuilder<Octs> {
     ghost use Rattle.domain_message_builder.specs.Opt.{bare_opt};
     ghost use Rattle.domain_message_builder.specs.OptViews.{opt_of};
 
-    /// An OPT record of these options, in wire format, of version 0, with nothing set, and a size of 512 octets.
+    /// Returns an OPT record of these options, in wire format, of version 0, with nothing set, and a size of 512
+    /// octets.
     ///
-    /// `LongRecordData` exactly if the options have more than 65,535 octets.
+    /// # Errors
+    ///
+    /// Returns `LongRecordData` if and only if the options have more than 65,535 octets.
     pub fn new(options: Octs) -> Result<OptBuilder<Octs>, LongRecordData>
         ensures ok { IfOk result (λ it. opt_of it ≡ bare_opt (Octs.octets options)) }
         ensures long { IsErr result ↔ (65535 < length (Octs.octets options)) }
@@ -199,8 +202,10 @@ impl<Octs: OctetsBuilder> OptBuilder<Octs> {
 
     /// Pushes an option of this code, or nothing (6.1.2).
     ///
-    /// `Long` exactly if the options would have more than 65,535 octets, else `Append` only if they exceed the room
-    /// for them. Nothing is then changed.
+    /// # Errors
+    ///
+    /// Returns `Long` if and only if the options would have more than 65,535 octets. Otherwise, returns `Append` only
+    /// if they exceed the room for them. Nothing is then changed.
     pub fn push_raw_option(
         &mut self,
         code: u16,

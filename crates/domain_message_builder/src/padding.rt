@@ -24,16 +24,21 @@ impl<Target: Composer> MessageBuilder<Target> {
     ghost use Rattle.domain_message_builder.specs.declared.error.PushError.TheVariants.{Count, Limit};
     ghost use Rattle.domain_message.specs.declared.section.Section.TheVariants.{Additional};
 
-    /// Pushes an OPT record with an option of padding after its options, or nothing (RFC 7830, 3). With the octets
-    /// that are to follow it, the length of the message is then a multiple of `block`, which is not zero. RFC 8467,
-    /// 4.1, recommends 128 for queries and 468 for responses.
+    /// Pushes an OPT record with an option of padding after its options, or nothing (RFC 7830, 3).
     ///
-    /// `following` is the number of octets that are pushed after it, as a TSIG record's, and 0 where it is the last
+    /// With the octets that are to follow it, the length of the message is then a multiple of `block`, which is not
+    /// zero. RFC 8467, 4.1, recommends 128 for queries and 468 for responses.
+    ///
+    /// `following` is the number of octets that are pushed after it, as a TSIG record's, and 0 if it is the last
     /// record. The record can use all octets that were set aside; these are set aside after it.
     ///
+    /// # Errors
+    ///
     /// Returns `Limit` if and only if the message would exceed its limit so. Otherwise, returns `Count` if and only if
-    /// there are 65,535 additional records, and `Append` only if the target has no room. After an error, nothing has
-    /// changed: a message that has no room for its padding can have the record without it (`push_opt`).
+    /// there are 65,535 additional records, and `Append` only if the target has no room.
+    ///
+    /// Nothing is then changed: a message that has no room for its padding can have the record without it
+    /// (`push_opt`).
     pub fn push_padded_opt<Octs: Octets>(
         &mut self,
         opt: &OptBuilder<Octs>,

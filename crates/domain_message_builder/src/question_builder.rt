@@ -58,9 +58,13 @@ impl<Target: Composer> QuestionBuilder<Target> {
 
     /// Pushes a question, or nothing.
     ///
+    /// # Errors
+    ///
     /// Returns `Count` if and only if there are 65,535 questions. Otherwise, returns `Limit` only if octets that can
     /// be composed for the question exceed the limit, less what is set aside, and `Append` only if they exceed the
-    /// target's room. After an error, nothing has changed, including what the target remembers.
+    /// target's room.
+    ///
+    /// Nothing is then changed, including what the target remembers.
     pub fn push<'a, N: AbsoluteLabels<'a>>(
         &mut self,
         question: &'a Question<N>,

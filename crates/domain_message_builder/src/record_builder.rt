@@ -84,10 +84,13 @@ impl<Target: Composer, S: RecordSection> RecordBuilder<Target, S> {
 
     /// Pushes a record into the section, or nothing.
     ///
+    /// # Errors
+    ///
     /// Returns `Count` if and only if the section has 65,535 records. Otherwise, returns `Long` only if data that can
     /// be composed for the record has over 65,535 octets. Returns `Limit` only if octets that can be composed for the
-    /// record exceed the limit, less what is set aside, and `Append` only if they exceed the target's room. After an
-    /// error, nothing has changed, including what the target remembers.
+    /// record exceed the limit, less what is set aside, and `Append` only if they exceed the target's room.
+    ///
+    /// Nothing is then changed, including what the target remembers.
     pub fn push<'a, N: AbsoluteLabels<'a>, D: ComposeRecordData>(
         &mut self,
         resource: &'a Record<N, D>,
@@ -163,8 +166,10 @@ impl<Target: Composer> RecordBuilder<Target, AdditionalSection> {
 
     /// Pushes an OPT record, or nothing, into the octets that were set aside too: none are after it (RFC 6891, 6.1.1).
     ///
-    /// The errors are those of `push`, and only where the record has no room or 65,535 are there. Nothing is then
-    /// changed, nor what the target remembers.
+    /// # Errors
+    ///
+    /// Returns the errors of `push`, and only if the record has no room or there are 65,535 records. Nothing is then
+    /// changed, including what the target remembers.
     pub fn push_opt<Octs: Octets>(
         &mut self,
         opt: &OptBuilder<Octs>,

@@ -13,13 +13,15 @@ use domain_message::Section;
 use domain_rdata::{ComposeRecordData, Composer};
 
 impl<Target: Composer> MessageBuilder<Target> {
-    /// Pushes an RRset that the answer can't do without, or sets the bit TC where it has no room (RFC 2181, 9).
-    /// Returns whether it was pushed.
+    /// Pushes an RRset that the answer can't do without, or sets the bit TC if it has no room (RFC 2181, 9).
     ///
-    /// The RRsets of the answer section are required, and so are the name servers of a referral and those of their
-    /// addresses that are glue (RFC 9471, 3). Where the RRset isn't pushed, TC is all that changes, and smaller ones
-    /// may be pushed after it. A refusal for any other reason than room is an error, as of `push_rrset`, and changes
-    /// nothing.
+    /// Returns whether it was pushed. The RRsets of the answer section are required, and so are the name servers of a
+    /// referral and those of their addresses that are glue (RFC 9471, 3). If the RRset isn't pushed, TC is all that
+    /// changes, and smaller ones can be pushed after it.
+    ///
+    /// # Errors
+    ///
+    /// Returns the error of `push_rrset` if it isn't for lack of room. The message is then unchanged.
     pub fn push_required<'a, N: AbsoluteLabels<'a>, D: ComposeRecordData>(
         &mut self,
         section: Section,
@@ -54,10 +56,14 @@ impl<Target: Composer> MessageBuilder<Target> {
         }
     }
 
-    /// Pushes an RRset that an answer can do without, or leaves it out where it has no room: TC isn't set for it (RFC
-    /// 2181, 9). Returns whether it was pushed.
+    /// Pushes an RRset that an answer can do without, or leaves it out if it has no room: TC isn't set for it (RFC
+    /// 2181, 9).
     ///
-    /// A refusal for any other reason than room is an error, as of `push_rrset`. Nothing changes unless it is pushed.
+    /// Returns whether it was pushed. Nothing changes unless it is.
+    ///
+    /// # Errors
+    ///
+    /// Returns the error of `push_rrset` if it isn't for lack of room. The message is then unchanged.
     pub fn push_extra<'a, N: AbsoluteLabels<'a>, D: ComposeRecordData>(
         &mut self,
         section: Section,

@@ -18,9 +18,13 @@ impl<Target: Composer> MessageBuilder<Target> {
     /// Pushes the records of an RRset into a section, in the order of their data, or none of them: an RRset is in a
     /// message whole, or it isn't there (RFC 2181, 5 and 9).
     ///
-    /// Each is pushed as `push` does, and the error is that of the first that is refused after those before it. Then
-    /// nothing has changed, including what the target remembers. The types of the data aren't compared. Of no data,
-    /// nothing is pushed, and nothing is refused.
+    /// Each is pushed as `push` does. The types of the data aren't compared. Of no data, nothing is pushed, and there
+    /// is no error.
+    ///
+    /// # Errors
+    ///
+    /// Returns the error of the first record that is refused after those before it. Nothing is then changed, including
+    /// what the target remembers.
     pub fn push_rrset<'a, N: AbsoluteLabels<'a>, D: ComposeRecordData>(
         &mut self,
         section: Section,

@@ -38,7 +38,11 @@ impl<Target: Composer + Drop> MessageBuilder<Target> {
     /// 4.2.2), and returns the target.
     ///
     /// The message was composed in a target of its own: its pointers count from its first octet, whatever the stream
-    /// has before it. It fails only if the two octets and the message exceed the stream's spare capacity. The stream's
+    /// has before it.
+    ///
+    /// # Errors
+    ///
+    /// Returns the stream's error only if the two octets and the message exceed its spare capacity. The stream's
     /// octets are then unchanged, and the target is dropped.
     pub fn finish_stream<Stream: OctetsBuilder>(
         self,

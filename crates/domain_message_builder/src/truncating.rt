@@ -31,14 +31,18 @@ pub(crate) fn cut_header(header: Header) -> Header
 impl<Target: Composer> MessageBuilder<Target> {
     ghost use Rattle.domain_message_builder.specs.declared.error.PushError.TheVariants.{Count};
 
-    /// Pushes an OPT record into the additional section, or nothing. The record can use the octets that were set
-    /// aside, too: none are set aside after it (RFC 6891, 6.1.1).
+    /// Pushes an OPT record into the additional section, or nothing.
+    ///
+    /// The record can use the octets that were set aside, too: none are set aside after it (RFC 6891, 6.1.1). A
+    /// message has one OPT record (6.1.1), so it is pushed once: the call doesn't check whether one is present.
     ///
     /// The octets are the root, the type 41, the size, the TTL, the length of the options, and the options in their
-    /// order (6.1.2). The TTL has the code, the version and the flags. The errors are those of `push`, and occur only
-    /// where the record has no room, or where there are 65,535 additional records. After an error, nothing has
-    /// changed. A message has one OPT record (6.1.1), so it is pushed once: the call doesn't check whether one is
-    /// present.
+    /// order (6.1.2). The TTL has the code, the version and the flags.
+    ///
+    /// # Errors
+    ///
+    /// Returns the errors of `push`, and only if the record has no room, or there are 65,535 additional records.
+    /// Nothing is then changed.
     pub fn push_opt<Octs: Octets>(
         &mut self,
         opt: &OptBuilder<Octs>,
@@ -123,15 +127,17 @@ impl<Target: Composer> MessageBuilder<Target> {
 }
 
 impl<Target: Composer + Drop> MessageBuilder<Target> {
-    /// Finishes an answer, or cuts it where it doesn't fit, and keeps its OPT record (RFC 2181, 9; RFC 6891, 7).
+    /// Finishes an answer, or cuts it if it doesn't fit, and keeps its OPT record (RFC 2181, 9; RFC 6891, 7).
     ///
-    /// `pushed` is the result of the pushes of its records, up to the first that was refused. Where that was for lack
-    /// of room (`is_for_room`), the bit TC is set, and the records before it are present, each whole. Then the OPT
-    /// record is pushed, if there is one, as by `push_opt`. Where it can't be pushed after the records, they are taken
-    /// away and TC is set. That never happens where room for it was set aside by `reserve`, and the target has room.
+    /// `pushed` is the result of the pushes of its records, up to the first that was refused. If that was for lack of
+    /// room (`is_for_room`), the bit TC is set, and the records before it are present, each whole. Then the OPT record
+    /// is pushed, if there is one, as by `push_opt`. If it can't be pushed after the records, they are taken away and
+    /// TC is set. That never happens if room for it was set aside by `reserve`, and the target has room.
     ///
-    /// If the error of `pushed` isn't for lack of room, it is returned. Otherwise, the call fails only for lack of
-    /// room, where the OPT record has none even directly after the questions. After an error, the target is dropped.
+    /// # Errors
+    ///
+    /// Returns the error of `pushed` if it isn't for lack of room. Otherwise, fails only for lack of room, if the OPT
+    /// record has none even directly after the questions. The target is then dropped.
     pub fn finish_or_truncate<Octs: Octets>(
         mut self,
         pushed: Result<(), PushError<Target::AppendError>>,

@@ -58,12 +58,14 @@ impl<Octs: Octets + Drop> Name<Octs> {
 
     /// Returns the name whose wire format the octets are.
     ///
-    /// `LongName` where there are more than 255 octets. Otherwise the first error from the left:
+    /// # Errors
+    ///
+    /// Returns `LongName` if there are more than 255 octets. Otherwise returns the first error from the left:
     /// - `CompressedName` at a pointer;
-    /// - `BadLabel` at another octet that begins no label;
-    /// - `ShortInput` where there are no octets or they end inside a label;
-    /// - `RelativeName` where they end after a label that isn't the root;
-    /// - `TrailingData` where octets follow the root.
+    /// - `BadLabel` at another octet that starts no label;
+    /// - `ShortInput` if there are no octets or they end inside a label;
+    /// - `RelativeName` if they end after a label that isn't the root;
+    /// - `TrailingData` if octets follow the root.
     pub fn from_octets(octets: Octs) -> Result<Name<Octs>, NameError>
         ensures ok { IfOk result (λ name. name_octets name ≡ Octs.octets octets) }
         ensures holder { IfOk result (λ name. name_holder name ≡ octets) }
@@ -79,7 +81,13 @@ impl<Octs: Octets + Drop> Name<Octs> {
 impl<'a> Name<&'a [u8]> {
     ghost use Rattle.domain_name.specs.Names.{name_octets, name_labels, ReadsAbsoluteWire, NameAhead, WasAhead, ReadsNameAhead, IsFirstAndParent};
 
-    /// The name whose wire format the octets are, with the errors of `from_octets`.
+    /// Returns the name whose wire format the octets are.
+    ///
+    /// # Errors
+    ///
+    /// Returns the errors of [`from_octets`](Name::from_octets).
+    ///
+    /// # Examples
     ///
     /// In `crates/examples/src/flat_names.rt`, where it is proved:
     ///
@@ -102,9 +110,11 @@ impl<'a> Name<&'a [u8]> {
 
     /// Reads the uncompressed name at the parser's position, and moves the parser after its root.
     ///
-    /// The first error from the left is returned: `ShortInput`, or a form error "compressed domain name" at a
-    /// pointer, "invalid label type" at another octet that begins no label. After the root, "long domain name" where
-    /// the name has more than 255 octets. On an error the parser is unchanged.
+    /// # Errors
+    ///
+    /// Returns the first error from the left: `ShortInput`, or a form error "compressed domain name" at a pointer,
+    /// "invalid label type" at another octet that starts no label. After the root, returns "long domain name" if the
+    /// name has more than 255 octets. The parser is then unchanged.
     pub fn parse(parser: &mut Parser<'a>) -> Result<Name<&'a [u8]>, ParseError>
         ensures ok { IfOk result (WasAhead parser.old parser.new) }
         ensures moves { IfOk result
@@ -400,8 +410,11 @@ impl<Octs: Truncate> Name<Octs> {
         RelativeName::from_wire(octets)
     }
 
-    /// The labels before those of `base`, where the name ends with them ignoring ASCII case. Else the name itself is
-    /// returned.
+    /// Returns the labels before those of `base`, if the name ends with them ignoring ASCII case.
+    ///
+    /// # Errors
+    ///
+    /// Returns the name itself if it doesn't end with them.
     pub fn strip_suffix<'a, N: AbsoluteLabels<'a>>(
         self,
         base: &'a N,
@@ -449,9 +462,11 @@ impl<Src: Octets, Octs: SameOctets<Src>> OctetsFrom<Name<Src>> for Name<Octs> {
 impl<Octs: SameOctets<&'static [u8]>> Name<Octs> {
     ghost use Rattle.domain_name.specs.Names.{name_labels, MayRefuse};
 
-    /// The root.
+    /// Returns the root.
     ///
-    /// `ShortBuf` only where a value can't be made of this one octet.
+    /// # Errors
+    ///
+    /// Returns `ShortBuf` only if a value can't be made of this one octet.
     pub fn root(alloc: Global) -> Result<Name<Octs>, ShortBuf>
         ensures ok { IfOk result (λ name. name_labels name ≡ Root) }
         ensures err { OnErr result (MayRefuse Octs.may_refuse (λ source. source.now) (wire Root)) }
@@ -466,14 +481,22 @@ impl<Octs: SameOctets<&'static [u8]>> Name<Octs> {
 impl Name<Vec<u8>> {
     ghost use Rattle.domain_name.specs.Names.{name_labels};
 
-    /// The root. `ShortBuf` only where an allocation failed.
+    /// Returns the root.
+    ///
+    /// # Errors
+    ///
+    /// Returns `ShortBuf` only if an allocation failed.
     pub fn root_vec(alloc: Global) -> Result<Name<Vec<u8>>, ShortBuf>
         ensures { IfOk result (λ name. name_labels name ≡ Root) }
     {
         Name::root(alloc)
     }
 
-    /// The same name over new octets. `ShortBuf` only where an allocation failed.
+    /// Returns the same name over new octets.
+    ///
+    /// # Errors
+    ///
+    /// Returns `ShortBuf` only if an allocation failed.
     pub fn clone(&self, alloc: Global) -> Result<Name<Vec<u8>>, ShortBuf>
         ensures { IfOk result (λ name. name_labels name ≡ name_labels self.now) }
     {
@@ -484,7 +507,11 @@ impl Name<Vec<u8>> {
 impl<const N: usize> Name<ArrayVec<u8, N>> {
     ghost use Rattle.domain_name.specs.Names.{name_labels};
 
-    /// The same name over new octets, which never fails.
+    /// Returns the same name over new octets.
+    ///
+    /// # Errors
+    ///
+    /// This call never fails.
     pub fn clone(&self, alloc: Global) -> Result<Name<ArrayVec<u8, N>>, ShortBuf>
         ensures ok { IfOk result (λ name. name_labels name ≡ name_labels self.now) }
         ensures made { IsOk result }

@@ -45,8 +45,11 @@ impl<B: EmptyBuilder + OctetsMut> NameBuilder<B> {
 
     /// Makes an empty builder with a capacity of `capacity` octets.
     ///
-    /// Where the capacity is fixed, any number is accepted, and the capacity stays unchanged. Otherwise the error is
-    /// `ShortBuf`, where an allocation failed.
+    /// If the capacity is fixed, any number is accepted, and the capacity stays unchanged.
+    ///
+    /// # Errors
+    ///
+    /// Without a fixed capacity, returns `ShortBuf` if an allocation failed. For no octets there is none.
     pub fn with_capacity(alloc: Global, capacity: usize) -> Result<Self, ShortBuf>
         ensures built { IfOk result (λ builder. built builder ≡ empty_state) }
         ensures room { IfSome B.ROOM (λ n. IfOk result (λ builder. (held builder).capacity ≡ n)) }
@@ -71,8 +74,11 @@ impl NameBuilder<Vec<u8>> {
         NameBuilder::new(alloc)
     }
 
-    /// Makes an empty builder over a `Vec` with a capacity of `capacity` octets. `ShortBuf` only where an allocation
-    /// failed.
+    /// Makes an empty builder over a `Vec` with a capacity of `capacity` octets.
+    ///
+    /// # Errors
+    ///
+    /// Returns `ShortBuf` only if an allocation failed. For no octets there is none.
     pub fn vec_with_capacity(alloc: Global, capacity: usize) -> Result<Self, ShortBuf>
         ensures built { IfOk result (λ builder. built builder ≡ empty_state) }
         ensures none { capacity ≡ 0 → IsOk result }
@@ -81,8 +87,11 @@ impl NameBuilder<Vec<u8>> {
         NameBuilder::with_capacity(alloc, capacity)
     }
 
-    /// The same builder over new octets, an open label too. `ShortBuf` only where an allocation failed, which a copy
-    /// of an empty builder doesn't make.
+    /// Returns the same builder over new octets, an open label too.
+    ///
+    /// # Errors
+    ///
+    /// Returns `ShortBuf` only if an allocation failed. A copy of an empty builder makes none.
     pub fn clone(&self, alloc: Global) -> Result<Self, ShortBuf>
         ensures built { IfOk result (λ copy. built copy ≡ built self.now) }
         ensures err { OnErr result (0 < size (built self.now)) }
@@ -94,7 +103,11 @@ impl NameBuilder<Vec<u8>> {
 }
 
 impl<const N: usize> NameBuilder<ArrayVec<u8, N>> {
-    /// The same builder over new octets, an open label too, which never fails.
+    /// Returns the same builder over new octets, an open label too.
+    ///
+    /// # Errors
+    ///
+    /// This call never fails.
     pub fn clone(&self, alloc: Global) -> Result<Self, ShortBuf>
         ensures built { IfOk result (λ copy. built copy ≡ built self.now) }
         ensures made { IsOk result }
@@ -129,11 +142,15 @@ impl<B: OctetsBuilder + OctetsMut> Octets for NameBuilder<B> {
 }
 
 impl<B: OctetsBuilder + OctetsMut + Drop> NameBuilder<B> {
-    /// A builder of the labels whose wire format the octets are, none of them open.
+    /// Makes a builder of the labels whose wire format the octets are, none of them open.
     ///
-    /// `LongName` where they are more than 254; else the first error from the left: `CompressedName` at a pointer,
-    /// `BadLabel` at another octet that begins no label, `ShortInput` where they end inside a label, `AbsoluteName`
-    /// at a root.
+    /// # Errors
+    ///
+    /// Returns `LongName` if there are more than 254 octets. Otherwise returns the first error from the left:
+    /// - `CompressedName` at a pointer;
+    /// - `BadLabel` at another octet that starts no label;
+    /// - `ShortInput` if the octets end inside a label;
+    /// - `AbsoluteName` at a root.
     pub fn from_builder(builder: B) -> Result<Self, RelativeNameError>
         ensures ok { IfOk result (λ made. built made ≡ finished (labels_in (B.octets builder))) }
         ensures capacity { IfOk result (λ made. (held made).capacity ≡ B.capacity builder) }
@@ -199,8 +216,14 @@ impl<B: OctetsBuilder + OctetsMut> NameBuilder<B> {
 
     /// Adds an octet to the open label, or opens one.
     ///
-    /// `LongName` where all would be more than 254 octets; else `LongLabel` where the label would have more
-    /// than 63; else `ShortBuf`.
+    /// # Errors
+    ///
+    /// Returns the first of these that holds:
+    /// - `LongName` if there would be more than 254 octets before the root;
+    /// - `LongLabel` if the label would have more than 63 octets;
+    /// - `ShortBuf` if the octet doesn't fit or an allocation failed.
+    ///
+    /// What was built is then unchanged.
     #[inline(always)]
     pub fn push(&mut self, ch: u8) -> Result<(), PushError>
         ensures made { OnOk result (built self.new ≡ pushed (built self.old) (ch ∷ [])) }
@@ -211,10 +234,18 @@ impl<B: OctetsBuilder + OctetsMut> NameBuilder<B> {
         self.labels.push(ch)
     }
 
-    /// Adds octets to the open label, or opens one. Without octets it changes nothing, and never fails.
+    /// Adds octets to the open label, or opens one.
     ///
-    /// `LongLabel` where the label would have more than 63 octets; else `LongName` where all would be more
-    /// than 254; else `ShortBuf`.
+    /// Without octets it changes nothing, and never fails.
+    ///
+    /// # Errors
+    ///
+    /// Returns the first of these that holds:
+    /// - `LongLabel` if the label would have more than 63 octets;
+    /// - `LongName` if there would be more than 254 octets before the root;
+    /// - `ShortBuf` if the octets don't fit or an allocation failed.
+    ///
+    /// What was built is then unchanged.
     #[inline(always)]
     pub fn append_slice(&mut self, slice: &[u8]) -> Result<(), PushError>
         ensures made { OnOk result (built self.new ≡ pushed (built self.old) slice.now) }
@@ -235,10 +266,18 @@ impl<B: OctetsBuilder + OctetsMut> NameBuilder<B> {
         self.labels.end_label();
     }
 
-    /// Finishes the open label and adds a label. Without octets it adds none, and never fails.
+    /// Finishes the open label and adds a label.
     ///
-    /// `LongLabel` where they are more than 63; else `LongName` where all would be more than 254; else
-    /// `ShortBuf`.
+    /// Without octets it adds none, and never fails.
+    ///
+    /// # Errors
+    ///
+    /// Returns the first of these that holds:
+    /// - `LongLabel` if the label has more than 63 octets;
+    /// - `LongName` if there would be more than 254 octets before the root;
+    /// - `ShortBuf` if the octets don't fit or an allocation failed.
+    ///
+    /// What was built is then unchanged.
     #[inline(always)]
     pub fn append_label(&mut self, label: &[u8]) -> Result<(), PushError>
         ensures made { OnOk result (built self.new ≡ labelled (built self.old) label.now) }
@@ -252,7 +291,13 @@ impl<B: OctetsBuilder + OctetsMut> NameBuilder<B> {
 
     /// Finishes the open label and adds a label of a number's decimal digits.
     ///
-    /// `LongName` where all would be more than 254 octets; else `ShortBuf`.
+    /// # Errors
+    ///
+    /// Returns the first of these that holds:
+    /// - `LongName` if there would be more than 254 octets before the root;
+    /// - `ShortBuf` if the octets don't fit or an allocation failed.
+    ///
+    /// What was built is then unchanged.
     pub fn append_dec_u8_label(&mut self, value: u8) -> Result<(), PushError>
         ensures made { OnOk result (built self.new ≡ labelled (built self.old) (decimal value)) }
         ensures unchanged { OnErr result (built self.new ≡ built self.old) }
@@ -263,10 +308,15 @@ impl<B: OctetsBuilder + OctetsMut> NameBuilder<B> {
         self.labels.append_dec_u8_label(value)
     }
 
-    /// Finishes the open label and adds a label of one hexadecimal digit, upper case, that of the lowest four
-    /// bits.
+    /// Finishes the open label and adds a label of one upper case hexadecimal digit, that of the lowest four bits.
     ///
-    /// `LongName` where all would be more than 254 octets; else `ShortBuf`.
+    /// # Errors
+    ///
+    /// Returns the first of these that holds:
+    /// - `LongName` if there would be more than 254 octets before the root;
+    /// - `ShortBuf` if the octets don't fit or an allocation failed.
+    ///
+    /// What was built is then unchanged.
     pub fn append_hex_digit_label(&mut self, nibble: u8) -> Result<(), PushError>
         ensures made { OnOk result (built self.new ≡ labelled (built self.old) (hex_label nibble)) }
         ensures unchanged { OnErr result (built self.new ≡ built self.old) }
@@ -277,10 +327,17 @@ impl<B: OctetsBuilder + OctetsMut> NameBuilder<B> {
         self.labels.append_hex_digit_label(nibble)
     }
 
-    /// Finishes the open label and adds the labels of a relative name of any kind, which are appended at once. For a
-    /// name without labels it never fails.
+    /// Finishes the open label and adds the labels of a relative name of any kind.
     ///
-    /// `LongName` where all would be more than 254 octets; else `ShortBuf`.
+    /// The labels are appended at once. For a name without labels the call never fails.
+    ///
+    /// # Errors
+    ///
+    /// Returns the first of these that holds:
+    /// - `LongName` if there would be more than 254 octets before the root;
+    /// - `ShortBuf` if the octets don't fit or an allocation failed.
+    ///
+    /// What was built is then unchanged.
     pub fn append_name<'a, N: RelativeLabels<'a>>(
         &mut self,
         name: &'a N,
@@ -316,11 +373,18 @@ impl<B: OctetsBuilder + OctetsMut> NameBuilder<B> {
     ghost use Rattle.domain_builder.specs.NameSymbols.{symbol_in_name};
     ghost use Rattle.domain_builder.specs.Pushing.{AddsSymbol};
 
-    /// Adds what a symbol of a text stands for (RFC 1035, 5.1). A plain dot ends the open label, and any other symbol
-    /// is pushed as its octet.
+    /// Adds what a symbol of a text stands for (RFC 1035, 5.1).
     ///
-    /// `EmptyLabel` at a dot where no label is open; a dot elsewhere never fails. `BinaryLabel` at `\[` where no label
-    /// is open. `BadSymbol` at a character that stands for no octet. Otherwise the errors of `push`.
+    /// A plain dot ends the open label, and any other symbol is pushed as its octet.
+    ///
+    /// # Errors
+    ///
+    /// - `EmptyLabel` at a dot if no label is open. A dot elsewhere never fails.
+    /// - `BinaryLabel` at `\[` if no label is open.
+    /// - `BadSymbol` at a character that stands for no octet.
+    /// - Otherwise the errors of [`push`](NameBuilder::push).
+    ///
+    /// What was built is then unchanged.
     pub fn push_symbol(&mut self, symbol: Symbol) -> Result<(), FromStrError>
         ensures takes { AddsSymbol B.limit (held self.old) (symbol_in_name symbol) result
             (held self.new) }
@@ -329,9 +393,13 @@ impl<B: OctetsBuilder + OctetsMut> NameBuilder<B> {
         self.labels.push_symbol(symbol)
     }
 
-    /// Pushes symbols in turn. They continue an open label, and leave the last one open.
+    /// Pushes symbols in turn.
     ///
-    /// The error is that of the first symbol that can't be added. What those before it added is kept.
+    /// They continue an open label, and leave the last one open.
+    ///
+    /// # Errors
+    ///
+    /// Returns the error of the first symbol that can't be added. What those before it added is kept.
     pub fn append_symbols<I: Iterator<Item = Symbol> + Drop>(
         &mut self,
         symbols: I,
@@ -345,9 +413,13 @@ impl<B: OctetsBuilder + OctetsMut> NameBuilder<B> {
         self.labels.append_symbols(symbols)
     }
 
-    /// Pushes the symbols of a text in turn. They continue an open label, and leave the last one open.
+    /// Pushes the symbols of a text in turn.
     ///
-    /// The error is that of the first symbol that can't be added, or of a broken escape. What the symbols before it
+    /// They continue an open label, and leave the last one open.
+    ///
+    /// # Errors
+    ///
+    /// Returns the error of the first symbol that can't be added, or of a broken escape. What the symbols before it
     /// added is kept.
     pub fn append_chars<I: Iterator<Item = char> + Drop>(
         &mut self,
@@ -390,7 +462,9 @@ where
 
     /// Finishes the open label and returns the labels and the root as an absolute name.
     ///
-    /// `ShortBuf` only where the root doesn't fit, or where an allocation failed.
+    /// # Errors
+    ///
+    /// Returns `ShortBuf` only if the root doesn't fit or an allocation failed.
     #[inline(always)]
     pub fn into_name(self) -> Result<Name<B::Octets>, PushError>
         ensures ok { IfOk result (λ name. name_labels name ≡ closed (built self) ++ Root) }
@@ -407,10 +481,15 @@ where
         Ok(Name::from_wire(builder.freeze()))
     }
 
-    /// Finishes the open label and returns the labels and after them those of an absolute name of any kind, which are
-    /// appended at once.
+    /// Finishes the open label and returns the labels and after them those of an absolute name of any kind.
     ///
-    /// `LongName` where all would be more than 255 octets; else `ShortBuf`.
+    /// The labels are appended at once.
+    ///
+    /// # Errors
+    ///
+    /// Returns the first of these that holds:
+    /// - `LongName` if there would be more than 255 octets;
+    /// - `ShortBuf` if the octets don't fit or an allocation failed.
     pub fn append_origin<'a, N: AbsoluteLabels<'a>>(
         self,
         origin: &'a N,

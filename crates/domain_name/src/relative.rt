@@ -48,11 +48,15 @@ impl<Octs: Octets + Copy> Clone for RelativeName<Octs> {
 impl<Octs: Octets + Drop> RelativeName<Octs> {
     ghost use Rattle.domain_name.specs.Names.{relative_octets, relative_labels, relative_holder, name_labels, ReadsRelativeWire, IsChainOf};
 
-    /// The name whose wire format the octets are.
+    /// Returns the name whose wire format the octets are.
     ///
-    /// `LongName` where they are more than 254; else the first error from the left: `CompressedName` at a pointer,
-    /// `BadLabel` at another octet that begins no label, `ShortInput` where they end inside a label, `AbsoluteName`
-    /// at a root.
+    /// # Errors
+    ///
+    /// Returns `LongName` if there are more than 254 octets. Otherwise returns the first error from the left:
+    /// - `CompressedName` at a pointer;
+    /// - `BadLabel` at another octet that starts no label;
+    /// - `ShortInput` if the octets end inside a label;
+    /// - `AbsoluteName` at a root.
     pub fn from_octets(octets: Octs) -> Result<RelativeName<Octs>, RelativeNameError>
         ensures ok { IfOk result (λ name. relative_octets name ≡ Octs.octets octets) }
         ensures holder { IfOk result (λ name. relative_holder name ≡ octets) }
@@ -64,9 +68,11 @@ impl<Octs: Octets + Drop> RelativeName<Octs> {
         Ok(RelativeName { octets })
     }
 
-    /// The chain of this name and another, which is one name.
+    /// Returns the chain of this name and another, which is one name.
     ///
-    /// `LongChainError` where more than 254 octets come before any root label.
+    /// # Errors
+    ///
+    /// Returns `LongChainError` if more than 254 octets come before any root label.
     pub fn chain<N: NameLabels + Drop>(
         self,
         other: N,
@@ -92,7 +98,11 @@ impl<Octs: Octets + Drop> RelativeName<Octs> {
 impl<'a> RelativeName<&'a [u8]> {
     ghost use Rattle.domain_name.specs.Names.{relative_octets, relative_labels, ReadsRelativeWire, IsFirstAndRelativeParent};
 
-    /// The name whose wire format the octets are, with the errors of `from_octets`.
+    /// Returns the name whose wire format the octets are.
+    ///
+    /// # Errors
+    ///
+    /// Returns the errors of [`from_octets`](RelativeName::from_octets).
     pub fn from_slice(octets: &'a [u8]) -> Result<RelativeName<&'a [u8]>, RelativeNameError>
         ensures ok { IfOk result (λ name. relative_octets name ≡ octets.now) }
         ensures list { ReadsRelativeWire octets.now result }
@@ -355,9 +365,11 @@ impl<Octs: Truncate> RelativeName<Octs> {
         self.octets.truncate(len);
     }
 
-    /// Removes the labels of `base`, where the name ends with them ignoring ASCII case.
+    /// Removes the labels of `base`, if the name ends with them ignoring ASCII case.
     ///
-    /// `StripSuffixError` where it doesn't. The name is then unchanged.
+    /// # Errors
+    ///
+    /// Returns `StripSuffixError` if it doesn't end with them. The name is then unchanged.
     pub fn strip_suffix<'a, N: RelativeLabels<'a>>(
         &mut self,
         base: &'a N,
@@ -409,9 +421,11 @@ impl<Src: Octets, Octs: SameOctets<Src>> OctetsFrom<RelativeName<Src>> for Relat
 impl<Octs: SameOctets<&'static [u8]>> RelativeName<Octs> {
     ghost use Rattle.domain_name.specs.Names.{relative_labels, Wildcard, MayRefuse};
 
-    /// The name without labels.
+    /// Returns the name without labels.
     ///
-    /// `ShortBuf` only where a value can't be made of no octets.
+    /// # Errors
+    ///
+    /// Returns `ShortBuf` only if a value can't be made of no octets.
     pub fn empty(alloc: Global) -> Result<RelativeName<Octs>, ShortBuf>
         ensures ok { IfOk result (λ name. relative_labels name ≡ []) }
         ensures err { OnErr result (MayRefuse Octs.may_refuse (λ source. source.now) (wire [])) }
@@ -422,9 +436,11 @@ impl<Octs: SameOctets<&'static [u8]>> RelativeName<Octs> {
         }
     }
 
-    /// The name of one label, an asterisk (RFC 4592, 2.1.1).
+    /// Returns the name of one label, an asterisk (RFC 4592, 2.1.1).
     ///
-    /// `ShortBuf` only where a value can't be made of these two octets.
+    /// # Errors
+    ///
+    /// Returns `ShortBuf` only if a value can't be made of these two octets.
     pub fn wildcard(alloc: Global) -> Result<RelativeName<Octs>, ShortBuf>
         ensures ok { IfOk result (λ name. relative_labels name ≡ Wildcard) }
         ensures err { OnErr result
@@ -440,7 +456,11 @@ impl<Octs: SameOctets<&'static [u8]>> RelativeName<Octs> {
 impl RelativeName<Vec<u8>> {
     ghost use Rattle.domain_name.specs.Names.{relative_octets, relative_labels, Wildcard};
 
-    /// The name without labels, which allocates nothing and never fails.
+    /// Returns the name without labels.
+    ///
+    /// # Errors
+    ///
+    /// This call never fails: nothing is allocated.
     pub fn empty_vec(alloc: Global) -> Result<RelativeName<Vec<u8>>, ShortBuf>
         ensures ok { IfOk result (λ name. relative_labels name ≡ []) }
         ensures made { IsOk result }
@@ -448,15 +468,22 @@ impl RelativeName<Vec<u8>> {
         RelativeName::empty(alloc)
     }
 
-    /// The name of one label, an asterisk. `ShortBuf` only where an allocation failed.
+    /// Returns the name of one label, an asterisk.
+    ///
+    /// # Errors
+    ///
+    /// Returns `ShortBuf` only if an allocation failed.
     pub fn wildcard_vec(alloc: Global) -> Result<RelativeName<Vec<u8>>, ShortBuf>
         ensures { IfOk result (λ name. relative_labels name ≡ Wildcard) }
     {
         RelativeName::wildcard(alloc)
     }
 
-    /// The same name over new octets. `ShortBuf` only where an allocation failed, which a copy of the empty name
-    /// doesn't make.
+    /// Returns the same name over new octets.
+    ///
+    /// # Errors
+    ///
+    /// Returns `ShortBuf` only if an allocation failed. A copy of the empty name makes none.
     pub fn clone(&self, alloc: Global) -> Result<RelativeName<Vec<u8>>, ShortBuf>
         ensures ok { IfOk result (λ name. relative_labels name ≡ relative_labels self.now) }
         ensures err { OnErr result (0 < length (relative_octets self.now)) }
@@ -468,7 +495,11 @@ impl RelativeName<Vec<u8>> {
 impl<const N: usize> RelativeName<ArrayVec<u8, N>> {
     ghost use Rattle.domain_name.specs.Names.{relative_labels};
 
-    /// The same name over new octets, which never fails.
+    /// Returns the same name over new octets.
+    ///
+    /// # Errors
+    ///
+    /// This call never fails.
     pub fn clone(&self, alloc: Global) -> Result<RelativeName<ArrayVec<u8, N>>, ShortBuf>
         ensures ok { IfOk result (λ name. relative_labels name ≡ relative_labels self.now) }
         ensures made { IsOk result }

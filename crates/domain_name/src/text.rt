@@ -28,19 +28,21 @@ where
 {
     ghost use Rattle.domain_name.specs.Texts.{ReadsChars, TellsCharsFault, AcceptsChars, RefusesChars, MakesNameOf};
 
-    /// Reads an absolute name from text, as `www.example.com` with or without a dot at the end
-    /// (RFC 1035, 5.1).
+    /// Reads an absolute name from text, as `www.example.com` with or without a dot at the end (RFC 1035, 5.1).
     ///
-    /// A single dot is the root. `ShortInput` where the text is empty. Otherwise the error of the first symbol that
-    /// can't be added:
+    /// A single dot is the root.
+    ///
+    /// # Errors
+    ///
+    /// Returns `ShortInput` if the text is empty. Otherwise returns the error of the first symbol that can't be added:
     /// - `ShortInput` or `BadEscape` at a broken escape;
     /// - `BadSymbol` at a character that isn't from space to tilde;
-    /// - `BinaryLabel` at `\[` where a label begins;
+    /// - `BinaryLabel` at `\[` where a label starts;
     /// - `EmptyLabel` at a dot where no label is open;
     /// - `LongName` for more than 254 octets before the root, else `LongLabel` for more than 63 in a label.
     ///
-    /// `ShortBuf` only where there is no other error: the octets, which are appended once, don't fit, or an allocation
-    /// failed.
+    /// Returns `ShortBuf` only if there is no other error: the octets, which are appended once, don't fit, or an
+    /// allocation failed.
     #[inline(always)]
     pub fn from_chars<I: Iterator<Item = char> + Drop>(
         alloc: Global,
@@ -59,7 +61,12 @@ where
         }
     }
 
-    /// Reads an absolute name from symbols, as `from_chars` does from the characters that spell them.
+    /// Reads an absolute name from symbols, as [`from_chars`](Name::from_chars) does from the characters that spell
+    /// them.
+    ///
+    /// # Errors
+    ///
+    /// Returns the errors of `from_chars`.
     #[inline(always)]
     pub fn from_symbols<I: Iterator<Item = Symbol> + Drop>(
         alloc: Global,
@@ -83,11 +90,14 @@ where
     ghost use Rattle.domain_builder.specs.Reverse.{reverse_name};
     ghost use Rattle.domain_name.specs.Names.{WireMayExceed};
 
-    /// Returns the name under which an address is looked up:
-    /// - for IPv4 its octets in decimal, the last first, under `in-addr.arpa` (RFC 1035, 3.5);
-    /// - for IPv6 each four bits as an upper case digit, the last first, under `ip6.arpa` (RFC 3596, 2.5).
+    /// Returns the name under which an address is looked up.
     ///
-    /// `ShortBuf` only where the octets, which are appended once, don't fit, or an allocation failed.
+    /// - For IPv4 it is its octets in decimal, the last first, under `in-addr.arpa` (RFC 1035, 3.5).
+    /// - For IPv6 it is each four bits as an upper case digit, the last first, under `ip6.arpa` (RFC 3596, 2.5).
+    ///
+    /// # Errors
+    ///
+    /// Returns `ShortBuf` only if the octets, which are appended once, don't fit, or an allocation failed.
     pub fn reverse_from_addr(alloc: Global, addr: IpAddr) -> Result<Self, PushError>
         ensures ok { IfOk result (λ name. name_labels name ≡ reverse_name addr) }
         ensures err { IfErr result (λ e. (e ≡ ShortBuf)
@@ -101,7 +111,11 @@ where
 }
 
 impl Name<Vec<u8>> {
-    /// Reads an absolute name from text, as `from_chars` does. `ShortBuf` only where an allocation failed.
+    /// Reads an absolute name from text, as [`from_chars`](Name::from_chars) does.
+    ///
+    /// # Errors
+    ///
+    /// Returns the errors of `from_chars`. `ShortBuf` is only returned if an allocation failed.
     #[inline(always)]
     pub fn vec_from_str(alloc: Global, text: &str) -> Result<Self, FromStrError>
         ensures { ReadsNameText name_labels None (chars text.now) result }
@@ -113,8 +127,11 @@ impl Name<Vec<u8>> {
     }
 }
 
-/// Reads an absolute name from text, as `from_chars` does. `ShortBuf` exactly where a name has more than
-/// `N` octets.
+/// Reads an absolute name from text, as `from_chars` does.
+///
+/// # Errors
+///
+/// Returns the errors of `from_chars`. `ShortBuf` is returned exactly when a name has more than `N` octets.
 impl<const N: usize> FromStr for Name<ArrayVec<u8, N>> {
     type Err = FromStrError;
 
@@ -138,10 +155,15 @@ where
 
     /// Reads a relative name from text, as `www.example` (RFC 1035, 5.1).
     ///
-    /// The empty text is the empty name. The error of a symbol that can't be added comes first, as for
-    /// `Name::from_chars`, except that a single dot is `EmptyLabel`. `AbsoluteName` where there is no such error and a
-    /// dot comes after the last label. `ShortBuf` only where there is no other error: the octets, which are appended
-    /// once, don't fit, or an allocation failed.
+    /// The empty text is the empty name.
+    ///
+    /// # Errors
+    ///
+    /// Returns the error of the first symbol that can't be added, as [`Name::from_chars`] does, except that a single
+    /// dot is `EmptyLabel`. Without such an error, returns `AbsoluteName` if a dot comes after the last label.
+    ///
+    /// Returns `ShortBuf` only if there is no other error: the octets, which are appended once, don't fit, or an
+    /// allocation failed.
     #[inline(always)]
     pub fn from_chars<I: Iterator<Item = char> + Drop>(
         alloc: Global,
@@ -162,7 +184,11 @@ where
 }
 
 impl RelativeName<Vec<u8>> {
-    /// Reads a relative name from text, as `from_chars` does. `ShortBuf` only where an allocation failed.
+    /// Reads a relative name from text, as [`from_chars`](RelativeName::from_chars) does.
+    ///
+    /// # Errors
+    ///
+    /// Returns the errors of `from_chars`. `ShortBuf` is only returned if an allocation failed.
     #[inline(always)]
     pub fn vec_from_str(alloc: Global, text: &str) -> Result<Self, RelativeFromStrError>
         ensures { ReadsRelativeText relative_labels None (chars text.now) result }
@@ -174,8 +200,11 @@ impl RelativeName<Vec<u8>> {
     }
 }
 
-/// Reads a relative name from text, as `from_chars` does. `ShortBuf` exactly where a name has more than `N`
-/// octets.
+/// Reads a relative name from text, as `from_chars` does.
+///
+/// # Errors
+///
+/// Returns the errors of `from_chars`. `ShortBuf` is returned exactly when a name has more than `N` octets.
 impl<const N: usize> FromStr for RelativeName<ArrayVec<u8, N>> {
     type Err = RelativeFromStrError;
 
@@ -214,10 +243,12 @@ where
 {
     ghost use Rattle.domain_flat.specs.Flat.{wire_len};
 
-    /// The absolute name of the name's labels and the root.
+    /// Returns the absolute name of the name's labels and the root.
     ///
-    /// `ShortBuf` only where the root exceeds the spare capacity of the name's octets, so never where it fits. Where
-    /// the capacity is fixed it is returned exactly where the root doesn't fit, else only where an allocation failed,
+    /// # Errors
+    ///
+    /// Returns `ShortBuf` only if the root exceeds the spare capacity of the name's octets, so never if it fits. If
+    /// the capacity is fixed, it is returned exactly when the root doesn't fit, else only if an allocation failed,
     /// too.
     pub fn into_absolute(self) -> Result<Name<Octs>, PushError>
         ensures ok { IfOk result (λ name. name_labels name ≡ relative_labels self ++ Root) }

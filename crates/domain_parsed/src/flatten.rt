@@ -13,7 +13,9 @@ use std::alloc::Global;
 
 /// The labels are copied from the message to new octets, as an uncompressed name.
 ///
-/// `ShortBuf` where the wire format exceeds the fixed capacity of the new octets, or where an allocation failed.
+/// # Errors
+///
+/// Returns `ShortBuf` if the wire format exceeds the fixed capacity of the new octets, or an allocation failed.
 impl<Octs: Octets + Drop, Target: FromBuilder + Drop> FlattenInto<Name<Target>> for ParsedName<Octs>
 where
     Target::Builder: EmptyBuilder + Drop,

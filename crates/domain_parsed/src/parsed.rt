@@ -95,16 +95,20 @@ impl<'a> ParsedName<&'a [u8]> {
 
     /// Reads the name at the parser's position, and moves the parser after the name's root or first pointer.
     ///
-    /// Octets at or after the parser's end are never read. A name that begins with pointers is read at the offset
-    /// that they lead to. Labels, the root among them, may have at most 255 octets with their length octets. Each
-    /// pointer must lead to an offset before its own, and at most 255 are followed.
+    /// Octets at or after the parser's end are never read. A name that begins with pointers is read at the offset that
+    /// they lead to. Labels, the root among them, may have at most 255 octets with their length octets. Each pointer
+    /// must lead to an offset before its own, and at most 255 are followed.
     ///
-    /// The first error on the way is returned, and the parser is then unchanged:
-    /// - `ShortInput` where the first octet of a label or a pointer, an octet of a label or the second octet of a
-    ///   pointer is at or after the end;
-    /// - "invalid label type" where the first octet of a label is from 0x40 to 0xbf;
+    /// # Errors
+    ///
+    /// Returns the first error on the way. The parser is then unchanged.
+    /// - `ShortInput` if the first octet of a label or a pointer, an octet of a label or the second octet of a pointer
+    ///   is at or after the end;
+    /// - "invalid label type" if the first octet of a label is from 0x40 to 0xbf;
     /// - "too many compression pointers" at one that doesn't lead to an offset before its own, and at a 256th;
     /// - "long domain name" at a whole label that makes more than 254 octets with those before it.
+    ///
+    /// # Examples
     ///
     /// In `crates/examples/src/reading.rt`, where it is proved:
     ///
@@ -137,7 +141,11 @@ impl<'a> ParsedName<&'a [u8]> {
         ParsedName::parse_with::<Brand>(parser, MAX_POINTERS, Blank::new(1))
     }
 
-    /// The same as `parse`.
+    /// Reads the name at the parser's position, like [`parse`](ParsedName::parse).
+    ///
+    /// # Errors
+    ///
+    /// Returns the errors of `parse`. The parser is then unchanged.
     #[inline(always)]
     pub fn parse_ref(parser: &mut Parser<'a>) -> Result<ParsedName<&'a [u8]>, ParseError>
         ensures { ParsesName max_pointers parser.old parser.new result }
@@ -145,7 +153,13 @@ impl<'a> ParsedName<&'a [u8]> {
         ParsedName::parse(parser)
     }
 
-    /// The same as `parse`, with at most `limit` pointers followed: one more is "too many compression pointers".
+    /// Reads the name at the parser's position, like [`parse`](ParsedName::parse), but follows at most `limit`
+    /// pointers.
+    ///
+    /// # Errors
+    ///
+    /// Returns the errors of `parse`, with "too many compression pointers" at one pointer more than the limit. The
+    /// parser is then unchanged.
     #[inline(always)]
     pub fn parse_with_limit(
         parser: &mut Parser<'a>,
@@ -172,9 +186,16 @@ impl<'a> ParsedName<&'a [u8]> {
         ParsedName::parse_counted(parser, limit, &mut Heads::<L>::new(blank))
     }
 
-    /// The same as `parse_with_limit`, and counts what is read in `heads`, which contracts alone see: one for each
-    /// label, each pointer and the root, and after an error one more for what failed. The count grows by at most 128
+    /// Reads the name at the parser's position, like [`parse_with_limit`](ParsedName::parse_with_limit), and counts
+    /// what it reads in `heads`.
+    ///
+    /// Only contracts see `heads`. It counts one for each label, each pointer and the root. It grows by at most 128
     /// and `limit` together.
+    ///
+    /// # Errors
+    ///
+    /// Returns the errors of `parse_with_limit`. The parser is then unchanged, and one more is counted for what
+    /// failed.
     #[inline(always)]
     pub fn parse_counted<L: Ledger>(
         parser: &mut Parser<'a>,
@@ -198,11 +219,15 @@ impl<'a> ParsedName<&'a [u8]> {
         Ok(ParsedName::finish(parser, &found, entries))
     }
 
-    /// The same as `parse_with_limit`, with the `NameFault` as the error, for callers that treat the four faults
-    /// differently. At an offset there is a name or a fault, never both (`reads_laws`): so this succeeds exactly where
-    /// `parse_with_limit` does.
+    /// Reads the name at the parser's position, like [`parse_with_limit`](ParsedName::parse_with_limit), with a
+    /// `NameFault` as the error.
     ///
-    /// The parser is unchanged on an error.
+    /// It is for callers that treat the four faults differently. At an offset there is a name or a fault, never both
+    /// (`reads_laws`). So this succeeds exactly when `parse_with_limit` does.
+    ///
+    /// # Errors
+    ///
+    /// Returns the fault. The parser is then unchanged.
     #[inline(always)]
     pub fn parse_or_fault(
         parser: &mut Parser<'a>,
@@ -245,8 +270,14 @@ impl<'a> ParsedName<&'a [u8]> {
     /// A pointer is not followed, so it may lead anywhere; its two octets must be there. The labels up to the root or
     /// first pointer, with their length octets and the root's, may have at most 255 octets.
     ///
-    /// `ShortInput` and "invalid label type" as for `parse`, "long domain name" for more than 255 octets. The parser
-    /// is then unchanged. Where `parse` succeeds, this does, and moves to the same offset.
+    /// If `parse` succeeds, this does, and moves to the same offset.
+    ///
+    /// # Errors
+    ///
+    /// Returns `ShortInput` and "invalid label type" as [`parse`](ParsedName::parse) does, and "long domain name" for
+    /// more than 255 octets. The parser is then unchanged.
+    ///
+    /// # Examples
     ///
     /// In `crates/examples/src/reading.rt`, where it is proved:
     ///
@@ -546,7 +577,11 @@ impl<Octs: Octets> From<Name<Octs>> for ParsedName<Octs> {
 impl ParsedName<Vec<u8>> {
     ghost use Rattle.domain_parsed.specs.ParsedNames.{parsed_model};
 
-    /// The same name over new octets, a copy of the whole message. `ShortBuf` only where an allocation failed.
+    /// Returns the same name over new octets, a copy of the whole message.
+    ///
+    /// # Errors
+    ///
+    /// Returns `ShortBuf` only if an allocation failed.
     pub fn clone(&self, alloc: Global) -> Result<ParsedName<Vec<u8>>, ShortBuf>
         ensures { IfOk result (λ name. parsed_model name ≡ parsed_model self.now) }
     {
@@ -558,7 +593,11 @@ impl ParsedName<Vec<u8>> {
 impl<const N: usize> ParsedName<ArrayVec<u8, N>> {
     ghost use Rattle.domain_parsed.specs.ParsedNames.{parsed_model};
 
-    /// The same name over new octets, a copy of the whole message, which never fails.
+    /// Returns the same name over new octets, a copy of the whole message.
+    ///
+    /// # Errors
+    ///
+    /// This call never fails.
     pub fn clone(&self, alloc: Global) -> Result<ParsedName<ArrayVec<u8, N>>, ShortBuf>
         ensures ok { IfOk result (λ name. parsed_model name ≡ parsed_model self.now) }
         ensures made { IsOk result }

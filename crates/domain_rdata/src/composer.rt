@@ -28,15 +28,17 @@ pub trait Composer: OctetsBuilder + OctetsMut {
     /// What is left of what was remembered where the octets are cut to so many.
     ghost kept_within: { ℕ → Memory → Memory };
 
-    /// What the composer becomes where the labels of an absolute name were appended: by the law `appended`
-    /// octets that may be appended came to its own, and by `name_forgotten` a cut before them forgets the name. What
-    /// else it tells is the composer's own affair.
+    /// What the composer becomes where the labels of an absolute name were appended: by the law `appended` octets that
+    /// may be appended came to its own, and by `name_forgotten` a cut before them forgets the name. What else it tells
+    /// is the composer's own affair.
     ghost appends: { Self → List (List ℕ) → Self → Type 0 };
 
-    /// Appends octets that may be appended for the name whose wire format is given, or nothing.
+    /// Appends octets that are permitted for the name with this wire format, or nothing.
     ///
-    /// It is refused only where such octets exceed the spare capacity, and the octets, and what is
-    /// remembered, are then as before.
+    /// # Errors
+    ///
+    /// Returns an error only if such octets exceed the spare capacity. The octets, and what is remembered, are then
+    /// unchanged.
     fn append_flat_name(&mut self, name: &[u8]) -> Result<(), Self::AppendError>
         requires { IsAbsoluteWire name.now }
         ensures ok { OnOk result (AddsName Self.Composer labels_in name.now self.old self.new) }
@@ -50,10 +52,12 @@ pub trait Composer: OctetsBuilder + OctetsMut {
     fn can_compress(&self) -> bool
         ensures { result ≡ compresses };
 
-    /// Appends octets that may be appended for the name, or nothing.
+    /// Appends octets that are permitted for the name, or nothing.
     ///
-    /// It is refused only where such octets exceed the spare capacity, and the octets, and what is
-    /// remembered, are then as before.
+    /// # Errors
+    ///
+    /// Returns an error only if such octets exceed the spare capacity. The octets, and what is remembered, are then
+    /// unchanged.
     final fn append_compressed_name<'a, N: AbsoluteLabels<'a>>(
         &mut self,
         name: &'a N,

@@ -6,8 +6,7 @@ use domain_wire::ParseError;
 use std::error::Error;
 use std::fmt;
 
-/// Record data has more than 65,535 octets, which is the most that its length of 16 bits can tell
-/// (RFC 1035, 3.2.1).
+/// Record data has more than 65,535 octets, which is the most that its length of 16 bits can state (RFC 1035, 3.2.1).
 #[derive(Clone, Copy, Debug)]
 pub struct LongRecordData;
 
@@ -19,7 +18,11 @@ impl LongRecordData {
         "record data too long"
     }
 
-    /// Refuses record data of more than 65,535 octets.
+    /// Checks that record data of `len` octets isn't too long.
+    ///
+    /// # Errors
+    ///
+    /// Returns `LongRecordData` if `len` is over 65,535.
     pub fn check_len(len: usize) -> Result<(), LongRecordData>
         ensures { IsErr result ↔ (65535 < len) }
     {
@@ -29,14 +32,22 @@ impl LongRecordData {
         Ok(())
     }
 
-    /// Refuses record data of `len` octets and `extra_len` more that are over 65,535 together.
+    /// Checks that record data of `len` octets and `extra_len` more isn't too long.
+    ///
+    /// # Errors
+    ///
+    /// Returns `LongRecordData` if they are over 65,535 together.
     pub fn check_append_len(len: usize, extra_len: usize) -> Result<(), LongRecordData>
         ensures { IsErr result ↔ (65535 < len + extra_len) }
     {
         LongRecordData::check_multi_len([len, extra_len])
     }
 
-    /// Refuses record data of parts that have over 65,535 octets together.
+    /// Checks that record data of parts with these lengths isn't too long.
+    ///
+    /// # Errors
+    ///
+    /// Returns `LongRecordData` if they are over 65,535 together.
     pub fn check_multi_len<const N: usize>(lens: [usize; N]) -> Result<(), LongRecordData>
         ensures { IsErr result ↔ (65535 < sum lens.entry) }
     {

@@ -99,8 +99,8 @@ pub trait RecordData {
 
 /// Record data that can be composed.
 ///
-/// A type says by `composed` which octets may be appended: those of its fields one after the other,
-/// where a target may write a name shorter. So a type owes nothing to any kind of target.
+/// A type says by `composed` which octets may be appended: those of its fields one after the other, where a target may
+/// write a name shorter. So a type proves nothing about any kind of target.
 pub trait ComposeRecordData: RecordData {
     /// The octets that may be appended to these octets of a target, which may write names shorter or
     /// not.
@@ -134,8 +134,10 @@ pub trait ComposeRecordData: RecordData {
 
     /// Appends the data, or nothing.
     ///
-    /// It is refused only where there are octets, and those with no name compressed exceed the spare capacity of the
-    /// target. It leaves its octets then.
+    /// # Errors
+    ///
+    /// Returns the target's error only if the data has octets, and these, with no name compressed, exceed its spare
+    /// capacity. The target's octets are then unchanged.
     fn compose_rdata<Target: Composer>(
         &self,
         target: &mut Target,
@@ -149,12 +151,16 @@ pub trait ComposeRecordData: RecordData {
         ensures some { OnErr result (0 < length (uncompressed self.now)) }
         ensures capacity { Target.capacity target.old ≤ Target.capacity target.new };
 
-    /// Appends the canonical form of the data, or nothing (RFC 4034, 6.2). No name is compressed. Names are in
-    /// lowercase exactly when [`Rtype::has_lowercase_names`] returns `true` for the type. For data held as octets, it
-    /// isn't known which of them are names: they are appended unchanged ([`CanonicalRecordData::knows_names`]).
+    /// Appends the canonical form of the data, or nothing (RFC 4034, 6.2).
     ///
-    /// The call fails only if the form has octets, and they exceed the spare capacity of the target. The target's
-    /// octets are then unchanged.
+    /// No name is compressed. Names are in lowercase exactly when [`Rtype::has_lowercase_names`] returns `true` for
+    /// the type. For data held as octets, it isn't known which of them are names: they are appended unchanged
+    /// ([`CanonicalRecordData::knows_names`]).
+    ///
+    /// # Errors
+    ///
+    /// Returns the target's error only if the form has octets, and they exceed its spare capacity. The target's octets
+    /// are then unchanged.
     fn compose_canonical_rdata<Target: Composer>(
         &self,
         target: &mut Target,
@@ -170,10 +176,15 @@ pub trait ComposeRecordData: RecordData {
 
     /// Appends the length of the data in two octets, and the data, or nothing.
     ///
-    /// `Long` only where the data has more than 65,535 octets as the target writes it. `Append` only where the data
-    /// with no name compressed exceeds, with its length, the spare capacity. The target's octets are then as before. A
-    /// target that writes names shorter is left to do so, but where no length is right: there no name is written
-    /// shorter, and `Long` is about these octets.
+    /// The target may compress names. If no length would then be right, no name is compressed.
+    ///
+    /// # Errors
+    ///
+    /// - `Long` only if the data has more than 65,535 octets as the target writes it. If no length would be right,
+    ///   these are the octets with no name compressed.
+    /// - `Append` only if the data with no name compressed exceeds, with its length, the spare capacity.
+    ///
+    /// The target's octets are then unchanged.
     final fn compose_len_rdata<Target: Composer>(
         &self,
         target: &mut Target,
@@ -199,8 +210,12 @@ pub trait ComposeRecordData: RecordData {
 
     /// Appends the length of the canonical form in two octets, and the canonical form, or nothing.
     ///
-    /// `Long` only where it has more than 65,535 octets, and `Append` only where it exceeds, with its length, the
-    /// spare capacity. The target's octets are then as before.
+    /// # Errors
+    ///
+    /// - `Long` only if the form has more than 65,535 octets.
+    /// - `Append` only if it exceeds, with its length, the spare capacity.
+    ///
+    /// The target's octets are then unchanged.
     final fn compose_canonical_len_rdata<Target: Composer>(
         &self,
         target: &mut Target,
@@ -253,7 +268,7 @@ pub trait ComposeRecordData: RecordData {
     ghost writes_composed: { (it : Self) → WritesComposed (written it) (composed it) };
 }
 
-/// Record data that tells whether its canonical form is known.
+/// Record data that says whether its canonical form is known.
 pub trait CanonicalRecordData: ComposeRecordData {
     /// Whether the canonical call appends the canonical form: the type has no names in lowercase there, or it is known
     /// which octets of the data are names.
@@ -431,10 +446,14 @@ pub trait ParseRecordData<'a>: RecordData + Sized {
     /// No data of this type is in the octets at the offset, and the error says why.
     ghost fails_with: { ℕ → List ℕ → ℕ → ParseError → Type 0 };
 
-    /// Reads data from the parser's position on, to its end, and moves the parser after it.
+    /// Reads the data from the parser's position to its end, and moves the parser after it.
     ///
-    /// `None` exactly where records of this type have other data, so an error comes of a type that has such data
-    /// alone. `None` and a refusal leave the parser where it stood.
+    /// Returns `None` exactly when records of this type have other data. The parser is then unchanged.
+    ///
+    /// # Errors
+    ///
+    /// Returns an error only for a type that has such data, if there is none at the position (`fails_with`). The
+    /// parser is then unchanged.
     fn parse_rdata(rtype: Rtype, parser: &mut Parser<'a>) -> Result<Option<Self>, ParseError>
         ensures ok { IfOk result (ReadsIfSome encodes rtype model parser.old parser.new) }
         ensures of_type { IfOk result
@@ -467,9 +486,11 @@ pub trait ParseAnyRecordData<'a>: RecordData + Sized {
     /// No data of this type is in the octets at the offset, and the error says why.
     ghost fails_with: { ℕ → List ℕ → ℕ → ParseError → Type 0 };
 
-    /// Reads data from the parser's position on, to its end, and moves the parser after it.
+    /// Reads the data from the parser's position to its end, and moves the parser after it.
     ///
-    /// A refusal leaves the parser where it stood.
+    /// # Errors
+    ///
+    /// Returns an error if there is no such data at the position (`fails_with`). The parser is then unchanged.
     fn parse_any_rdata(rtype: Rtype, parser: &mut Parser<'a>) -> Result<Self, ParseError>
         ensures ok { IfOk result (ReadsData encodes rtype model parser.old parser.new) }
         ensures of_type { IfOk result (IsOfType Self.type_number rtype) }

@@ -51,7 +51,11 @@ impl<Octs: Octets + Copy> Clone for UnknownRecordData<Octs> {
 impl<Octs: Octets + Drop> UnknownRecordData<Octs> {
     ghost use Rattle.domain_rdata.specs.Unknown.{data_holder, data_type};
 
-    /// Data of this type. `LongRecordData` exactly where it has more than 65,535 octets.
+    /// Returns data of this type with these octets.
+    ///
+    /// # Errors
+    ///
+    /// Returns `LongRecordData` if and only if there are more than 65,535.
     pub fn from_octets(
         rtype: Rtype,
         octets: Octs,
@@ -86,7 +90,11 @@ impl<Octs: Octets> UnknownRecordData<Octs> {
 impl UnknownRecordData<Vec<u8>> {
     ghost use Rattle.domain_rdata.specs.Unknown.{data_octets, data_type};
 
-    /// The same data over new octets. `ShortBuf` only where memory was refused.
+    /// Returns the same data over new octets.
+    ///
+    /// # Errors
+    ///
+    /// Returns `ShortBuf` only if an allocation failed. A copy of data without octets makes none.
     pub fn clone(&self, alloc: Global) -> Result<UnknownRecordData<Vec<u8>>, ShortBuf>
         ensures same { IfOk result (λ it. data_octets it ≡ data_octets self.now) }
         ensures of_type { IfOk result (λ it. data_type it ≡ data_type self.now) }
@@ -103,7 +111,11 @@ impl UnknownRecordData<Vec<u8>> {
 impl<const N: usize> UnknownRecordData<ArrayVec<u8, N>> {
     ghost use Rattle.domain_rdata.specs.Unknown.{data_octets, data_type};
 
-    /// The same data over new octets, which is never refused.
+    /// Returns the same data over new octets.
+    ///
+    /// # Errors
+    ///
+    /// This call never fails.
     pub fn clone(&self, alloc: Global) -> Result<UnknownRecordData<ArrayVec<u8, N>>, ShortBuf>
         ensures same { IfOk result (λ it. data_octets it ≡ data_octets self.now) }
         ensures of_type { IfOk result (λ it. data_type it ≡ data_type self.now) }
@@ -150,10 +162,10 @@ impl<Octs: Octets> RecordData for UnknownRecordData<Octs> {
 
 /// The octets of the data, whatever the target.
 ///
-/// They are the canonical form too (RFC 3597, 7), but of the types whose names are in lowercase there (RFC 4034, 6.2),
-/// as `knows_names` tells. Data of a type of RFC 1035 that was read from a message may have pointers to names of that
-/// message (RFC 3597, 4). They are octets like others here, and lead elsewhere in another message: read data of these
-/// types by their fields.
+/// They are the canonical form too (RFC 3597, 7), except for the types whose names are in lowercase there (RFC 4034,
+/// 6.2), as `knows_names` says. Data of a type of RFC 1035 that was read from a message may have pointers to names of
+/// that message (RFC 3597, 4). They are octets like others here, and lead elsewhere in another message: read data of
+/// these types by their fields.
 impl<Octs: Octets> ComposeRecordData for UnknownRecordData<Octs> {
     ghost use Rattle.domain_rdata.specs.OctetsAlone.{octets_written};
     ghost use Rattle.domain_rdata.specs.Unknown.{data_octets};
@@ -203,6 +215,8 @@ impl<'a> UnknownRecordData<&'a [u8]> {
     ghost use Rattle.domain_rdata.specs.Unknown.{data_octets, data_type};
 
     /// Reads data of this type, which is all remaining octets, and moves the parser to its end.
+    ///
+    /// # Errors
     ///
     /// Returns a form error "record data too long" if and only if more than 65,535 octets remain. The parser then
     /// keeps its position.

@@ -57,7 +57,7 @@ fn octet_of(types: &[u16], first: u16) -> u8
     four_of(types, first) * 16 + four_of(types, first + 4)
 }
 
-/// How many octets the bitmap of a window has with a type, if it has so many without.
+/// How many octets the bitmap of a window has with a type, if it has `len` without.
 fn len_with(len: u16, window: u16, rtype: u16) -> u16
     requires { len ≤ 32 }
     ensures value { result ≡ len_with len window rtype }
@@ -84,7 +84,7 @@ fn bitmap_len(types: &[u16], window: u16) -> u16
     len
 }
 
-/// Appends so many octets of the bitmap of a window.
+/// Appends `len` octets of the bitmap of a window.
 #[tactic(auto, using(crate::proofs::Counting::one_octet))]
 fn append_bitmap(types: &[u16], window: u16, len: u16, made: &mut Vec<u8>) -> Result<(), AllocError>
     requires window { window < 256 }
@@ -177,7 +177,7 @@ fn append_blocks(
     Ok(())
 }
 
-/// How many windows there are up to that of a type, and no fewer than so many.
+/// How many windows there are up to that of a type, and no fewer than `count`.
 fn windows_with(count: u16, rtype: u16) -> u16
     requires { count ≤ 256 }
     ensures value { result ≡ windows_with count rtype }
@@ -257,11 +257,11 @@ pub(crate) enum Block {
     Ended,
     /// The window of one more.
     Window(u8),
-    /// A part of one. The first bit of the next octet is that of the type, and so many octets follow.
+    /// A part of one. The first bit of the next octet is that of the type, and this number of octets follows.
     Bitmap(u16, u8),
 }
 
-/// What is read after one of so many octets of a bitmap.
+/// What is read after one of the `left` octets of a bitmap.
 fn block_after(first: u16, left: u8) -> Block
     requires some { 0 < left }
     requires fits { first + 8 * left ≤ 65536 }

@@ -327,7 +327,7 @@ fn refusal_of(word: &Word, reason: Reason) -> Fault
     }
 }
 
-/// Appends the octets of a field that is written so, and returns the words after its own. The text has so many octets.
+/// Appends the octets of a field that is written so, and returns the words after its own. The text has `len` octets.
 #[tactic(auto, using(crate::proofs::Refusing::one_refused, crate::proofs::Refusing::name_refused))]
 fn take_field<'w>(
     alloc: Global,
@@ -437,7 +437,7 @@ fn take_field<'w>(
     }
 }
 
-/// The octets of fields of these kinds that words are. The text has so many octets.
+/// The octets of fields of these kinds that words are. The text has `len` octets.
 fn fields_of_words(
     alloc: Global,
     origin: Option<&[u8]>,
@@ -463,7 +463,7 @@ fn fields_of_words(
     }
 }
 
-/// The octets of data with fields of these kinds that words are. The text has so many octets.
+/// The octets of data with fields of these kinds that words are. The text has `len` octets.
 fn data_of_words(
     alloc: Global,
     origin: Option<&[u8]>,
@@ -530,7 +530,7 @@ fn first_offset(words: &[Word]) -> usize
     }
 }
 
-/// The octets of data of the type in the class that the words from `\#` on are. The text has so many octets.
+/// The octets of data of the type in the class that the words from `\#` on are. The text has `len` octets.
 fn read_generic(
     alloc: Global,
     rtype: u16,
@@ -577,26 +577,26 @@ fn read_with(
     )
 }
 
-/// The octets of data of the type in the class that a text says: its fields, or `\#`, the number of its octets and
-/// these in hexadecimal digits (RFC 3597, 5).
+/// Returns the octets of data of the type in the class, read from text.
 ///
-/// The text is what an entry has after its type, without parentheses. White space, the ends of lines among it,
-/// separates words, and a semicolon begins a comment. Names have their final dot: there is no origin, for which
-/// [`read_relative_to`] is. The octets have no compressed name.
+/// The text is its fields, or `\#`, the number of its octets and these in hexadecimal digits (RFC 3597, 5). It is what
+/// an entry has after its type, without parentheses. White space, the ends of lines among it, separates words, and a
+/// semicolon starts a comment. Names have their final dot: there is no origin, for which [`read_relative_to`] is. The
+/// octets have no compressed name.
 ///
 /// # Errors
 ///
-/// `Refused` with a fault and its offset, of which [`place_of`](crate::place_of) returns line and column: what
-/// [`split_words`](crate::split_words) refuses, wherever it is, or else the first from the left of these:
-/// - `MissingWord` and `ExtraWord` where there are fewer words than fields, or more;
+/// Returns `Refused` with a fault and its offset, of which [`place_of`](crate::place_of) returns line and column. It
+/// is what [`split_words`](crate::split_words) refuses, wherever it is, or else the first from the left of these:
+/// - `MissingWord` and `ExtraWord` if there are fewer words than fields, or more;
 /// - `Number`, `Time`, `Rtype`, `Ipv4`, `Ipv6`, `Name`, `CharString`, `Tag`, `QuotedText`, `Base16`, `Base64`,
 ///   `CountedBase16` or `CountedBase32` at a word that isn't such a field;
 /// - `OnlyGeneric` at a word of a field that has no form of its own ([`TextForm`](crate::TextForm));
-/// - `LongData` where the data has more than 65,535 octets;
-/// - after `\#` `OctetCount` at the number, where there are more octets or fewer, and `NotData` at `\#`, where they
-///   aren't data of the type, or have a compressed name.
+/// - `LongData` if the data has more than 65,535 octets;
+/// - after `\#`, `OctetCount` at the number if there are more octets or fewer, and `NotData` at `\#` if they aren't
+///   data of the type, or have a compressed name.
 ///
-/// `Memory` where there was none.
+/// Returns `Memory` if an allocation failed.
 pub fn read(alloc: Global, rtype: u16, class: u16, text: &[u8]) -> Result<Vec<u8>, ReadError>
     ensures ok { IfOk result
         (λ made. text_octets (known_fields rtype class) text.now ≡ Ok made.items) }
@@ -607,12 +607,15 @@ pub fn read(alloc: Global, rtype: u16, class: u16, text: &[u8]) -> Result<Vec<u8
     read_with(alloc, None, rtype, class, text)
 }
 
-/// The octets of data of the type in the class that a text says, as [`read`], where the text has an origin: a name in
-/// wire format. A name without a final dot goes on with it, and `@` is the origin (RFC 1035, 5.1).
+/// Returns the octets of data of the type in the class, read from text as [`read`] does, with an origin.
+///
+/// The origin is a name in wire format. A name without a final dot is completed by it, and `@` is the origin (RFC
+/// 1035, 5.1).
 ///
 /// # Errors
 ///
-/// As of [`read`]. `Name` is also at a word whose name has more than 255 octets with those of the origin.
+/// Returns the errors of [`read`]. `Name` is also returned at a word whose name has more than 255 octets with those of
+/// the origin.
 pub fn read_relative_to(
     alloc: Global,
     origin: &[u8],

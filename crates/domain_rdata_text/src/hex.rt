@@ -210,7 +210,7 @@ pub(crate) fn is_mark(word: &[u8]) -> bool
     }
 }
 
-/// The octets that the words from `\#` on are, in a text of so many octets.
+/// The octets that the words from `\#` on are, in a text of `len` octets.
 pub(crate) fn generic_of(alloc: Global, len: usize, words: &[Word]) -> Result<Vec<u8>, ReadError>
     ensures ok { IfOk result (λ made. read_generic len (words_of words.now) ≡ Ok made.items) }
     ensures err { IfFault result (λ f. read_generic len (words_of words.now) ≡ Err f) }

@@ -100,7 +100,7 @@ fn longest_run_of(groups: &[u16]) -> usize
     longest
 }
 
-/// How many groups are before the first run of so many zeros, or all.
+/// How many groups are before the first run of `run` zeros, or all.
 fn place_of_run(run: usize, groups: &[u16]) -> usize
     ensures place { result ≡ before_run run groups.now }
     ensures within { result ≤ length groups.now }
@@ -117,7 +117,7 @@ fn place_of_run(run: usize, groups: &[u16]) -> usize
     at
 }
 
-/// Appends groups with `::` in place of so many zeros, which are after others.
+/// Appends groups with `::` in place of `run` zeros, which are after others.
 fn append_shortened(
     at: usize,
     run: usize,

@@ -208,8 +208,8 @@ fn push_whole(
     push_labels(refusal, labels.as_slice(), origin, made)
 }
 
-/// Appends the octets of the name that a word is. A relative name goes on with the origin, and `@` is the origin. The
-/// word is refused with the fault that is passed.
+/// Appends the octets of the name that a word is. A relative name is completed by the origin, and `@` is the origin.
+/// The word is refused with the fault that is passed.
 pub(crate) fn push_name(
     alloc: Global,
     refusal: Fault,
@@ -240,14 +240,15 @@ pub(crate) fn push_name(
     push_whole(refusal, origin, parts, made)
 }
 
-/// Returns the octets of the name that a word is, in wire format. A name without a final dot goes on with the origin,
-/// and `@` is the origin (RFC 1035, 5.1). The origin is in wire format, and then so is the name
-/// ([`name_law`](crate::name_law)).
+/// Returns the octets of the name that a word is, in wire format.
+///
+/// A name without a final dot is completed by the origin, and `@` is the origin (RFC 1035, 5.1). The origin is in wire
+/// format, and then so is the name ([`name_law`](crate::name_law)).
 ///
 /// # Errors
 ///
-/// `Refused` with `Name` at 0 if the word isn't a name of labels of 1 to 63 octets each, of at most 255 octets with
-/// those of the origin. `Memory` where there was none.
+/// Returns `Refused` with `Name` at 0 if the word isn't a name of labels of 1 to 63 octets each, of at most 255 octets
+/// with those of the origin. Returns `Memory` if an allocation failed.
 #[tactic(auto, using(crate::proofs::Refusing::refused_and))]
 pub fn name_relative_to(alloc: Global, origin: &[u8], word: &[u8]) -> Result<Vec<u8>, ReadError>
     ensures ok { IfOk result (λ made. read_name (Some origin.now) word.now ≡ Some made.items) }

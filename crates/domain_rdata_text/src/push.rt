@@ -40,7 +40,7 @@ pub(crate) fn copy_of(alloc: Global, octets: &[u8]) -> Result<Vec<u8>, AllocErro
     Ok(made)
 }
 
-/// Appends the word that octets are as they stand.
+/// Appends the word of these octets, unchanged.
 pub(crate) fn append_copy(
     alloc: Global,
     octets: &[u8],

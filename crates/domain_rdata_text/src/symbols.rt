@@ -7,7 +7,7 @@ use crate::error::{Fault, ReadError};
 use crate::push::append_all;
 use std::alloc::{AllocError, Global};
 
-/// An octet as it stands, or one without a special meaning.
+/// An octet written as itself, or one without a special meaning.
 #[derive(Clone, Copy, Debug, PartialEq, Eq)]
 pub enum Symbol {
     /// The octet itself.

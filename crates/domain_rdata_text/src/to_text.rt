@@ -193,11 +193,13 @@ fn words_of_data(alloc: Global, plain: &PlainData) -> Result<Vec<Vec<u8>>, Alloc
     generic_words_of(alloc, plain.octets.as_slice())
 }
 
-/// Appends the text of record data: its fields with a space between two (RFC 1035, 5.1), or `\#`, the number of its
-/// octets and these in hexadecimal digits (RFC 3597, 5).
+/// Appends the text of record data.
 ///
-/// The second form is for data with a field that has no form of its own ([`TextForm`](crate::TextForm)), for data
-/// whose last field is empty, and for bitmaps of types that aren't canonical (RFC 4034, 4.1.2).
+/// It is its fields with a space between two (RFC 1035, 5.1), or `\#`, the number of its octets and these in
+/// hexadecimal digits (RFC 3597, 5).
+///
+/// The second form is for data with a field that has no form of its own ([`TextForm`](crate::TextForm)), and for data
+/// whose last field is empty. It is also for bitmaps of types that aren't canonical (RFC 4034, 4.1.2).
 ///
 /// Names are written with their final dot, and without pointers. In a label a dot, a backslash, a space and `;`, `"`,
 /// `(`, `)`, `@`, `$` follow a backslash. Other octets that can't be printed are a backslash and three digits.

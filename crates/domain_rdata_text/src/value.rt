@@ -248,7 +248,7 @@ fn optional_types_value(alloc: Global, octets: &[u8]) -> Result<Value, AllocErro
 pub(crate) enum Open {
     /// Whole strings.
     Between,
-    /// Strings and a part of one, of which so many octets are to come.
+    /// Strings and a part of one, of which this number of octets is to come.
     Inside(u8),
 }
 
@@ -411,11 +411,11 @@ pub struct PlainData {
     pub octets: Vec<u8>,
 }
 
-/// What the fields of data hold, and its octets without pointers.
+/// Returns what the fields of data hold, and its octets without pointers.
 ///
 /// # Errors
 ///
-/// Where there was no memory.
+/// Returns an error if an allocation failed.
 pub fn plain_data(alloc: Global, rdata: &Rdata<'_>) -> Result<PlainData, AllocError>
     ensures values { IfOk result (λ plain. HasValues rdata.now (vals_of plain.values.items)) }
     ensures octets { IfOk result

@@ -89,15 +89,16 @@ fn close(
     }
 }
 
-/// The words of a text, without comments.
+/// Returns the words of a text, without comments.
 ///
 /// # Errors
 ///
-/// `Refused` with the first fault and its offset: `Parenthesis` at one that is neither between quotes nor after a
-/// backslash; at the end of the text `OpenQuote` where a quote has no second one, and `LoneBackslash` where a
-/// backslash outside of quotes has no octet after it.
+/// Returns `Refused` with the first fault and its offset:
+/// - `Parenthesis` at one that is neither between quotes nor after a backslash;
+/// - at the end of the text, `OpenQuote` if a quote has no second one, and `LoneBackslash` if a backslash outside of
+///   quotes has no octet after it.
 ///
-/// `Memory` where there was none.
+/// Returns `Memory` if an allocation failed.
 pub fn split_words(alloc: Global, text: &[u8]) -> Result<Vec<Word>, ReadError>
     ensures ok { IfOk result (λ words. split text.now ≡ Ok (words_of words.items)) }
     ensures err { IfFault result (λ f. split text.now ≡ Err f) }

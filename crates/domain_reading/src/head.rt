@@ -22,6 +22,11 @@ pub enum Head {
 /// It is the only function that counts, and the only one that interprets the first octet of a label or pointer of a
 /// message. All that read names call it: `read_name_counted`, `encoding_end_with`, `read_label`, and the search of
 /// `domain_compress`.
+///
+/// # Errors
+///
+/// Returns `ShortInput` if the label or pointer isn't whole in the message, and `BadLabelType` if the first octet is
+/// neither that of a label nor that of a pointer. It is counted, too.
 #[inline(always)]
 pub fn read_head<L: Ledger>(
     message: &[u8],

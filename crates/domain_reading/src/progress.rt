@@ -65,8 +65,11 @@ impl Progress {
         self.count += 1;
     }
 
-    /// Reads a label of this many octets, and adds its offset to the table. `LongName` where the labels have more
-    /// than 254 octets; nothing is changed then.
+    /// Reads a label of this many octets, and adds its offset to the table.
+    ///
+    /// # Errors
+    ///
+    /// Returns `LongName` if the labels have more than 254 octets. Nothing is then changed.
     #[inline(always)]
     pub fn pass_label(
         &mut self,
@@ -90,8 +93,12 @@ impl Progress {
         Ok(())
     }
 
-    /// Follows a pointer. `TooManyPointers` where it doesn't lead to an offset before its own or `limit` pointers
-    /// were followed; nothing is changed then.
+    /// Follows a pointer.
+    ///
+    /// # Errors
+    ///
+    /// Returns `TooManyPointers` if it doesn't lead to an offset before its own, or `limit` pointers were followed.
+    /// Nothing is then changed.
     #[inline(always)]
     pub fn follow(&mut self, target: usize, limit: u8) -> Result<(), NameFault>
         requires room { self.old.at + 2 < 2 ^ 64 }

@@ -22,6 +22,11 @@ const MAX_NAME_LEN: usize = 255;
 ///
 /// `progress` is as `Progress::new` makes it, at the name's first octet. The offsets of the labels are written to the
 /// beginning of the table.
+///
+/// # Errors
+///
+/// Returns the first [`NameFault`] on the way. At most 128 labels and pointers more than the limit were then counted.
+/// `progress` and the table then have no specified value.
 #[inline(always)]
 pub fn read_name_counted<L: Ledger>(
     message: &[u8],

@@ -20,12 +20,17 @@ use domain_label::Label;
 use std::marker::Brand;
 use std::sync::ledger::{Blank, Ledger};
 
-/// Reads the name at an offset, through at most `limit` pointers, and leaves the result in `progress`. For a name, as
-/// before an error, at most 128 labels and pointers more than the limit are read: that is the clause `few_heads` of
-/// `read_name_counted`, of which this is a call.
+/// Reads the name at an offset, through at most `limit` pointers, and leaves the result in `progress`.
+///
+/// For a name, as before an error, at most 128 labels and pointers more than the limit are read. That is the clause
+/// `few_heads` of `read_name_counted`, which this calls.
 ///
 /// `progress` is as `Progress::new` makes it, at the name's first octet. The offsets of the labels are written to the
 /// beginning of the table.
+///
+/// # Errors
+///
+/// Returns the first [`NameFault`] on the way. `progress` and the table then have no specified value.
 #[inline(always)]
 pub fn read_name(
     message: &[u8],
@@ -68,7 +73,12 @@ fn read_name_with<L: Ledger>(
     )
 }
 
-/// The offset after the encoding of the name at an offset: after its root or first pointer, wherever that leads to.
+/// Returns the offset after the encoding of the name at an offset: after its root or first pointer, wherever that
+/// leads to.
+///
+/// # Errors
+///
+/// Returns the first [`NameFault`] on the way: never `TooManyPointers`, as no pointer is followed.
 #[inline(always)]
 pub fn encoding_end(message: &[u8], pos: usize) -> Result<usize, NameFault>
     ensures skips { IfOk result (Skips message.now pos) }

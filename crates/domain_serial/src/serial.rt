@@ -76,7 +76,9 @@ impl Serial {
 
     /// Reads a serial, the high octet first (RFC 1035, 2.3.2).
     ///
-    /// `ShortInput` where fewer than four octets are left. The parser is unchanged then.
+    /// # Errors
+    ///
+    /// Returns `ShortInput` if fewer than four octets remain. The parser is then unchanged.
     pub fn parse(parser: &mut Parser<'_>) -> Result<Serial, ParseError>
         ensures ok { IfOk result (λ serial. Passes NumberAt parser.old serial.0 parser.new) }
         ensures moves { OnOk result (MovesTo parser.old parser.new (position parser.new)) }
@@ -88,7 +90,9 @@ impl Serial {
 
     /// Appends the four octets, the high one first, or none.
     ///
-    /// It fails only where they exceed the spare capacity of the target, whose octets are then as before.
+    /// # Errors
+    ///
+    /// Returns the target's error only if they exceed its spare capacity. The octets of the target are then unchanged.
     pub fn compose<Target: OctetsBuilder>(
         &self,
         target: &mut Target,
@@ -133,7 +137,11 @@ impl From<Timestamp> for Serial {
     }
 }
 
-/// The texts that `u32` is read from, and its errors.
+/// Reads the texts that `u32` is read from.
+///
+/// # Errors
+///
+/// Returns the errors of `u32`.
 impl FromStr for Serial {
     type Err = ParseIntError;
 

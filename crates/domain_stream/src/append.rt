@@ -14,10 +14,10 @@ use octseq::{Octets, OctetsBuilder, Truncate};
 ///
 /// # Errors
 ///
-/// - `Oversized` exactly where the message has more than 65,535 octets.
-/// - `Append` only where the two octets and the message exceed the spare capacity of the stream.
+/// - `Oversized` exactly when the message has more than 65,535 octets.
+/// - `Append` only if the two octets and the message exceed the spare capacity of the stream.
 ///
-/// The octets of the stream are unchanged then.
+/// The octets of the stream are then unchanged.
 pub fn append_message<Stream: OctetsBuilder>(
     message: &[u8],
     stream: &mut Stream,

@@ -74,7 +74,7 @@ impl<'a> StreamMessages<'a> {
     ///
     /// # Errors
     ///
-    /// `CutOff` exactly where octets of an incomplete message follow the last complete one.
+    /// Returns `CutOff` exactly when octets of an incomplete message follow the last complete one.
     pub fn finish(&self) -> Result<(), CutOff>
         ensures exact { IsOk result ↔ (rest_in (stream_left self.now) ≡ []) }
         ensures missing { IfErr result

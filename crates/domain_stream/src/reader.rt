@@ -75,12 +75,12 @@ impl<Octs: OctetsBuilder> StreamReader<Octs> {
     ///
     /// # Errors
     ///
-    /// - `Oversized` exactly where the length field states more octets than the limit: once both octets of the field
+    /// - `Oversized` exactly when the length field states more octets than the limit: once both octets of the field
     ///   are held or in the piece. The stream can't be read on.
-    /// - `Append` only where the octets exceed the spare capacity of the buffer: never where that has room for the
-    ///   limit and two octets. No call makes the capacity smaller.
+    /// - `Append` only if the octets exceed the spare capacity of the buffer: never if that has room for the limit and
+    ///   two octets. No call makes the capacity smaller.
     ///
-    /// No octet is taken then.
+    /// No octet is then taken.
     pub fn push(&mut self, piece: &[u8]) -> Result<usize, StreamError<Octs::AppendError>>
         ensures ok { IfOk result (TakesPiece self.old piece.now self.new) }
         ensures some { IsIncomplete (held_octets self.old) → 0 < length piece.now →
@@ -127,7 +127,7 @@ impl<Octs: OctetsBuilder> StreamReader<Octs> {
     ///
     /// # Errors
     ///
-    /// `CutOff` exactly where the reader holds octets of an incomplete message.
+    /// Returns `CutOff` exactly when the reader holds octets of an incomplete message.
     pub fn finish(&self) -> Result<(), CutOff>
         ensures exact { IsOk result ↔ (rest_in (held_octets self.now) ≡ []) }
         ensures missing { IfErr result

@@ -39,7 +39,7 @@ impl fmt::Display for LongCharString {
 
 impl Error for LongCharString {}
 
-/// A character string: one octet that tells its length, and that many octets of any values (RFC 1035, 3.3).
+/// A character string: one octet that states its length, and that many octets of any values (RFC 1035, 3.3).
 ///
 /// Two are equal where their octets are.
 pub struct CharString<Octs: Octets> {
@@ -62,7 +62,11 @@ impl<Octs: Octets + Copy> Clone for CharString<Octs> {
 impl<Octs: Octets + Drop> CharString<Octs> {
     ghost use Rattle.domain_strings.specs.Views.{char_holder};
 
-    /// The string of these octets. `LongCharString` exactly where they are more than 255.
+    /// Returns the string of these octets.
+    ///
+    /// # Errors
+    ///
+    /// Returns `LongCharString` if and only if there are more than 255.
     pub fn from_octets(octets: Octs) -> Result<CharString<Octs>, LongCharString>
         ensures held { IfOk result (λ it. char_holder it ≡ octets) }
         ensures long { IsErr result ↔ (255 < length (Octs.octets octets)) }
@@ -77,7 +81,7 @@ impl<Octs: Octets + Drop> CharString<Octs> {
 impl<Octs: Octets> CharString<Octs> {
     ghost use Rattle.domain_strings.specs.Views.{char_octets};
 
-    /// The octets of the string, without the one that tells their number.
+    /// The octets of the string, without the one that states their number.
     pub fn as_slice(&self) -> &[u8]
         ensures octets { result.now ≡ char_octets self.now }
         ensures short { length result.now ≤ 255 }
@@ -86,7 +90,11 @@ impl<Octs: Octets> CharString<Octs> {
     }
 }
 
-/// One octet, and as many as it tells. `ShortInput` where they aren't left.
+/// One octet, and as many as it states.
+///
+/// # Errors
+///
+/// Returns `ShortInput` if fewer remain.
 impl<'a> ReadField<'a, ParseError> for CharString<&'a [u8]> {
     ghost use Rattle.domain_strings.specs.Views.{char_octets};
 

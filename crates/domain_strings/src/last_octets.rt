@@ -62,7 +62,11 @@ impl<const TEXT: u8, Octs: Octets + Copy> Clone for LastOctets<TEXT, Octs> {
 impl<const TEXT: u8, Octs: Octets + Drop> LastOctets<TEXT, Octs> {
     ghost use Rattle.domain_strings.specs.Views.{last_holder};
 
-    /// The field of these octets. `LongRecordData` exactly where they are more than 65,535.
+    /// Returns the field of these octets.
+    ///
+    /// # Errors
+    ///
+    /// Returns `LongRecordData` if and only if there are more than 65,535.
     pub fn from_octets(octets: Octs) -> Result<LastOctets<TEXT, Octs>, LongRecordData>
         ensures held { IfOk result (λ it. last_holder it ≡ octets) }
         ensures long { IsErr result ↔ (65535 < length (Octs.octets octets)) }
@@ -84,7 +88,11 @@ impl<const TEXT: u8, Octs: Octets> LastOctets<TEXT, Octs> {
     }
 }
 
-/// Reads all remaining octets. Returns a form error "record data too long" if they are more than 65,535.
+/// Reads all remaining octets.
+///
+/// # Errors
+///
+/// Returns a form error "record data too long" if there are more than 65,535.
 impl<'a, const TEXT: u8> ReadField<'a, ParseError> for LastOctets<TEXT, &'a [u8]> {
     ghost use Rattle.domain_strings.specs.Views.{last_octets};
 

@@ -76,7 +76,11 @@ impl<Octs: Octets + Copy> Clone for Tag<Octs> {
 impl<Octs: Octets + Drop> Tag<Octs> {
     ghost use Rattle.domain_strings.specs.TagViews.{tag_string};
 
-    /// The tag that this string is. `InvalidTag` exactly where it is none.
+    /// Returns the tag that this string is.
+    ///
+    /// # Errors
+    ///
+    /// Returns `InvalidTag` if and only if it is none.
     pub fn from_string(string: CharString<Octs>) -> Result<Tag<Octs>, InvalidTag>
         ensures held { IfOk result (λ it. tag_string it ≡ string) }
         ensures invalid { IsErr result ↔ (IsTag (char_octets string) → ⊥) }
@@ -91,7 +95,7 @@ impl<Octs: Octets + Drop> Tag<Octs> {
 impl<Octs: Octets> Tag<Octs> {
     ghost use Rattle.domain_strings.specs.TagViews.{tag_octets};
 
-    /// The octets of the tag, without the one that tells their number.
+    /// The octets of the tag, without the one that states their number.
     pub fn as_slice(&self) -> &[u8]
         ensures octets { result.now ≡ tag_octets self.now }
         ensures tag { IsTag result.now }
@@ -100,7 +104,11 @@ impl<Octs: Octets> Tag<Octs> {
     }
 }
 
-/// A character string that is a tag. A form error "invalid tag" where it is none.
+/// A character string that is a tag.
+///
+/// # Errors
+///
+/// Returns a form error "invalid tag" if it is none.
 impl<'a> ReadField<'a, ParseError> for Tag<&'a [u8]> {
     ghost use Rattle.domain_strings.specs.TagViews.{tag_octets};
 

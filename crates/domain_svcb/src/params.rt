@@ -109,10 +109,14 @@ impl<Octs: Octets + Drop> SvcParams<Octs> {
 
     /// Returns the parameters that these octets are: none if there is no octet.
     ///
-    /// The error is `Long` if they are more than 65,535 octets, and otherwise the first error from the left.
-    /// `ShortInput` means that they end inside a parameter. `KeyOrder` means that a key isn't greater than that of the
-    /// parameter before it. If the key of a parameter is out of order and its value is cut, the error is `KeyOrder`,
-    /// because the key comes first.
+    /// # Errors
+    ///
+    /// Returns `Long` if there are more than 65,535 octets, and otherwise the first error from the left:
+    /// - `ShortInput` if they end inside a parameter;
+    /// - `KeyOrder` if a key isn't greater than that of the parameter before it.
+    ///
+    /// If the key of a parameter is out of order and its value is cut, the error is `KeyOrder`, because the key comes
+    /// first.
     pub fn from_octets(octets: Octs) -> Result<SvcParams<Octs>, SvcParamsError>
         ensures held { IfOk result (λ it. params_holder it ≡ octets) }
         ensures params { IfOk result
@@ -163,9 +167,12 @@ impl<Octs: Octets> SvcParams<Octs> {
     }
 }
 
-/// Reads all remaining octets, which must be parameters. The errors are those of [`SvcParams::from_octets`].
-/// `KeyOrder` is a form error "keys of parameters out of order". If more than 65,535 octets remain, the form error is
-/// "record data too long".
+/// Reads all remaining octets, which must be parameters.
+///
+/// # Errors
+///
+/// Returns the errors of [`SvcParams::from_octets`]. `KeyOrder` is a form error "keys of parameters out of order". If
+/// more than 65,535 octets remain, the form error is "record data too long".
 impl<'a> ReadField<'a, ParseError> for SvcParams<&'a [u8]> {
     ghost use Rattle.domain_svcb.specs.ParamsViews.{params_of};
 

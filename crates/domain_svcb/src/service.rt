@@ -103,8 +103,12 @@ impl<const TYPE: u16, F> RecordData for ServiceData<TYPE, F> {
     }
 }
 
-/// A priority, a name and parameters. Octets that are no parameters are `ShortInput`, "keys of parameters out of
-/// order" or "record data too long".
+/// A priority, a name and parameters.
+///
+/// # Errors
+///
+/// For octets that are no parameters, returns `ShortInput`, "keys of parameters out of order" or "record data too
+/// long".
 impl<'a, const TYPE: u16> ParseRecordData<'a>
     for ServiceData<TYPE, ServiceFields<&'a [u8], ParsedName<&'a [u8]>>> {
     ghost View = { ℕ × (List (List ℕ) × List (ℕ × List ℕ)) };

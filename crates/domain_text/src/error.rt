@@ -150,7 +150,7 @@ fn label(kind: LabelFromStrErrorKind) -> PresentationErrorKind
     PresentationErrorKind::BadLabel(kind.into())
 }
 
-/// The fault as the errors tell it.
+/// The fault as the errors report it.
 fn presentation(fault: TextFault) -> PresentationErrorKind
     ensures { presentation_fault result ≡ fault }
 {

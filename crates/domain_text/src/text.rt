@@ -193,7 +193,20 @@ where
     absolute_octets(alloc, &mut buffer, read)
 }
 
-/// Reads an absolute name from text: its octets.
+/// Reads an absolute name from text (RFC 1035, 5.1), and returns its octets.
+///
+/// # Errors
+///
+/// Returns the first error of the text, in a `Presentation`:
+/// - `ShortInput` if the text is empty, or ends inside an escape;
+/// - `BadEscape` at a character that breaks an escape;
+/// - `BadSymbol` at a character that isn't from space to tilde;
+/// - `BinaryLabel` at `\[` where a label starts;
+/// - `EmptyLabel` at a dot where no label is open;
+/// - `LongName` for more than 254 octets before the root, else `LongLabel` for more than 63 in a label.
+///
+/// If the text has no error, returns `ShortBuf` if the octets, which are appended once, don't fit or an allocation
+/// failed.
 #[inline(always)]
 pub fn absolute_from_chars<Octs: FromBuilder + Drop, I: Iterator<Item = char> + Drop>(
     alloc: Global,
@@ -210,7 +223,15 @@ where
     absolute_from_items(alloc, Symbols::new(chars))
 }
 
-/// Reads a relative name from text: its octets.
+/// Reads a relative name from text (RFC 1035, 5.1), and returns its octets.
+///
+/// # Errors
+///
+/// Returns the error of a symbol as [`absolute_from_chars`] does, except that the empty text is the empty name and a
+/// single dot is `EmptyLabel`. Without such an error, returns `AbsoluteName` if a dot comes after the last label.
+///
+/// If the text has no error, returns `ShortBuf` if the octets, which are appended once, don't fit or an allocation
+/// failed.
 #[inline(always)]
 pub fn relative_from_chars<Octs: FromBuilder + Drop, I: Iterator<Item = char> + Drop>(
     alloc: Global,
@@ -229,7 +250,11 @@ where
     relative_octets(alloc, &mut buffer, read)
 }
 
-/// Reads an absolute name from symbols: its octets.
+/// Reads an absolute name from symbols, and returns its octets.
+///
+/// # Errors
+///
+/// Returns the errors of [`absolute_from_chars`] for the characters that spell the symbols.
 #[inline(always)]
 pub fn absolute_from_symbols<Octs: FromBuilder + Drop, I: Iterator<Item = Symbol> + Drop>(
     alloc: Global,
@@ -246,7 +271,11 @@ where
     absolute_from_items(alloc, WholeSymbols::new(symbols))
 }
 
-/// Reads an absolute name from text: its octets.
+/// Reads an absolute name from text, and returns its octets.
+///
+/// # Errors
+///
+/// Returns the errors of [`absolute_from_chars`].
 #[inline(always)]
 pub fn absolute_from_str<Octs: FromBuilder + Drop>(
     alloc: Global,
@@ -262,7 +291,11 @@ where
     absolute_octets(alloc, &mut buffer, read)
 }
 
-/// Reads a relative name from text: its octets.
+/// Reads a relative name from text, and returns its octets.
+///
+/// # Errors
+///
+/// Returns the errors of [`relative_from_chars`].
 #[inline(always)]
 pub fn relative_from_str<Octs: FromBuilder + Drop>(
     alloc: Global,
@@ -318,9 +351,13 @@ fn relative_array<const N: usize>(
     }
 }
 
-/// Reads an absolute name from text into an empty array: its octets. No memory is asked for.
+/// Reads an absolute name from text into an empty array, which then holds its octets.
 ///
-/// The array is the caller's: a `Result` that holds one is copied each time it is handed on.
+/// Nothing is allocated. The array is the caller's: a `Result` that holds one is copied each time it is handed on.
+///
+/// # Errors
+///
+/// Returns the errors of [`absolute_from_chars`]. `ShortBuf` is only returned if the octets don't fit.
 #[inline(always)]
 pub fn absolute_into_array<const N: usize>(
     octets: &mut ArrayVec<u8, N>,
@@ -336,7 +373,13 @@ pub fn absolute_into_array<const N: usize>(
     absolute_array(octets, &mut buffer, read)
 }
 
-/// Reads a relative name from text into an empty array: its octets. No memory is asked for.
+/// Reads a relative name from text into an empty array, which then holds its octets.
+///
+/// Nothing is allocated.
+///
+/// # Errors
+///
+/// Returns the errors of [`relative_from_chars`]. `ShortBuf` is only returned if the octets don't fit.
 #[inline(always)]
 pub fn relative_into_array<const N: usize>(
     octets: &mut ArrayVec<u8, N>,

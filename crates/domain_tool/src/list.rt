@@ -96,11 +96,15 @@ fn list_message<W: Write>(
 
 /// Reads the input to its end, and writes a line for each question and record of the message.
 ///
-/// The counts of the header say how many entries each section has (RFC 1035, 4.1.1); octets after the last one are
+/// The counts of the header state how many entries each section has (RFC 1035, 4.1.1); octets after the last one are
 /// ignored. A line has the word of the section (`question`, `answer`, `authority`, `additional`), the name with a
-/// final dot, type and class. For a record it also has the TTL, and the data in the generic text of RFC 3597. Returns
-/// `Parse` if the header or an entry isn't there, with the error of its name, else `ShortInput`; the lines of the
-/// entries before it are written then. Returns `Read` if the input couldn't be read; nothing is written then.
+/// final dot, type and class. For a record it also has the TTL, and the data in the generic text of RFC 3597.
+///
+/// # Errors
+///
+/// - `Parse` if the header or an entry is missing: with the error of the entry's name, else with `ShortInput`. The
+///   lines of the entries before it are then written.
+/// - `Read` if the input couldn't be read. Nothing is then written.
 pub fn list<R: Read, W: Write>(
     alloc: Global,
     input: &mut R,

@@ -17,8 +17,11 @@ pub trait Program {
     ) -> u8;
 }
 
-/// Carries out a program on the words and the streams that it was started with. Where there is no memory for the
-/// words, that is the error, and the status 3.
+/// Carries out a program on the words and the streams that it was started with.
+///
+/// # Errors
+///
+/// If allocation failed for the words, that is the error, and the status 3.
 pub fn start<P: Program>(rt: &HostRuntime) -> ExitCode {
     let alloc = rt.alloc();
     let arguments = match arguments(alloc, rt) {

@@ -25,12 +25,16 @@ fn name_from_text(alloc: Global, text: &str) -> Result<Name<ArrayVec<u8, 255>>, 
     Name::from_chars(alloc, text.chars())
 }
 
-/// Writes the wire format of the absolute name that a text is, in lower case hexadecimal digits, and a
-/// newline.
+/// Writes the wire format of the absolute name that a text is, in lower case hexadecimal digits, and a newline.
 ///
-/// The text is read by `Name::from_chars` (RFC 1035, 5.1). `Text` where it is none of a name, with its
-/// first error; nothing is written then. Else the only error is `Write`, where the output couldn't be
-/// written: no memory is needed.
+/// The text is read by `Name::from_chars` (RFC 1035, 5.1).
+///
+/// # Errors
+///
+/// - `Text` if it isn't that of a name, with its first error. Nothing is then written.
+/// - `Write` if the output couldn't be written.
+///
+/// There is no other error: no memory is needed.
 pub fn name_text<W: Write>(alloc: Global, text: &str, output: &mut W) -> Result<(), ToolError>
     ensures written { OnOk result (ShowsWireOf W.contents (chars text.now) output.old output.new) }
     ensures err { IfTextRefused result (HasTextFault (chars text.now)) }

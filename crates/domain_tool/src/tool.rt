@@ -57,6 +57,10 @@ impl fmt::Display for ToolError {
 impl Error for ToolError {}
 
 /// Reads the input to its end.
+///
+/// # Errors
+///
+/// Returns `Read` if the input couldn't be read, and `Memory` if an allocation failed.
 pub fn read_all<R: Read>(alloc: Global, input: &mut R) -> Result<Vec<u8>, ToolError>
     ensures octets { IfOk result (λ octets. AreAllOf (R.remaining input.old) octets.items) }
     ensures whole { OnOk result (IsAtEnd (R.remaining input.new)) }
@@ -70,8 +74,11 @@ pub fn read_all<R: Read>(alloc: Global, input: &mut R) -> Result<Vec<u8>, ToolEr
     }
 }
 
-/// The name at an offset of a message, of at most this many pointers. An offset past the end is
-/// `ShortInput`.
+/// Returns the name at an offset of a message, of at most this many pointers.
+///
+/// # Errors
+///
+/// Returns the errors of `ParsedName::parse_with_limit`. An offset past the end is `ShortInput`.
 pub fn parse_at(message: &[u8], offset: u32, limit: u8) -> Result<ParsedName<&[u8]>, ParseError>
     ensures ok { IfOk result (λ name. Names limit message.now offset (parsed_labels name)) }
     ensures err { IfErr result (λ e. NoNameWithin limit message.now offset e) }
@@ -112,8 +119,14 @@ impl From<WriteFault> for ToolError {
     }
 }
 
-/// Writes a text and a newline. They are put together on the stack and written by one call, without any
-/// memory; a longer line is written piece by piece.
+/// Writes a text and a newline.
+///
+/// They are put together on the stack and written by one call, without any memory; a longer line is written piece by
+/// piece.
+///
+/// # Errors
+///
+/// Returns an error if the output couldn't be written.
 pub fn write_line<D: fmt::Display + Drop, W: Write>(
     output: &mut W,
     text: D,
@@ -127,11 +140,14 @@ pub fn write_line<D: fmt::Display + Drop, W: Write>(
     Ok(())
 }
 
-/// Reads the input to its end, and writes the name at the offset, with a final dot and a
-/// newline.
+/// Reads the input to its end, and writes the name at the offset, with a final dot and a newline.
 ///
-/// The name may have compression pointers (RFC 1035, 4.1.4). `Parse` where none is there, with the error
-/// of `ParsedName::parse`; nothing is written then. An offset past the input is `ShortInput`.
+/// The name may have compression pointers (RFC 1035, 4.1.4).
+///
+/// # Errors
+///
+/// Returns `Parse` if there is no name at the offset, with the error of `ParsedName::parse`. An offset past the input
+/// is `ShortInput`. Nothing is written then, nor after `Read`.
 pub fn name_at<R: Read, W: Write>(
     alloc: Global,
     input: &mut R,
@@ -146,8 +162,13 @@ pub fn name_at<R: Read, W: Write>(
     name_at_with_limit(alloc, input, output, offset, u8::MAX)
 }
 
-/// The same as `name_at`, with at most `limit` pointers followed: one more is "too many compression
-/// pointers".
+/// Reads the input to its end, and writes the name at the offset, like `name_at`, but follows at most `limit`
+/// pointers.
+///
+/// # Errors
+///
+/// Returns the errors of `name_at`, with "too many compression pointers" at one pointer more than the limit. Nothing
+/// is written after `Parse` or `Read`.
 pub fn name_at_with_limit<R: Read, W: Write>(
     alloc: Global,
     input: &mut R,
@@ -194,13 +215,19 @@ fn carry_out<R: Read, W: Write>(
     }
 }
 
-/// Carries out the words that follow the program's name, and flushes the output. The answer is the status
-/// to end with: 0 where it is done, 1 where there is no such name or message, 2 for other words, 3 where
-/// reading, writing or memory failed. The reason is written to `errors`; that this fails changes no status.
-/// Where flushing fails, `writing failed` is the reason, whatever came before.
+/// Carries out the words that follow the program's name, and flushes the output.
 ///
-/// `at PLACE` is `name_at`, `at PLACE --pointers N` is `name_at_with_limit`, `text NAME` is `name_text`, and
-/// `list` is `list`.
+/// `at PLACE` is `name_at`, `at PLACE --pointers N` is `name_at_with_limit`, `text NAME` is `name_text`, and `list` is
+/// `list`. Returns the status to end with: 0 if it is done.
+///
+/// # Errors
+///
+/// - 1 if there is no such name or message.
+/// - 2 for other words. Nothing is then read, or written to `output`.
+/// - 3 if reading, writing or memory failed.
+///
+/// The reason is written to `errors`. If writing it fails, the status is the same. If flushing fails, `writing failed`
+/// is the reason, whatever came before.
 pub fn run<R: Read, W: Write, E: Write>(
     alloc: Global,
     words: &[&str],

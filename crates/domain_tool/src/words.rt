@@ -30,7 +30,11 @@ impl<E: Env> Env for Words<E> {
     }
 }
 
-/// The words after the program's name. `OutOfMemory` where there was no memory, another kind where a word is no text.
+/// Returns the words after the program's name.
+///
+/// # Errors
+///
+/// Returns `OutOfMemory` if an allocation failed, and another kind if a word is no text.
 pub fn arguments<E: Env + Drop>(alloc: Global, env: E) -> Result<Vec<String>, ErrorKind> {
     match env::args(&(Words { env }, alloc)) {
         Ok(arguments) => match arguments.collect(alloc) {

@@ -19,14 +19,22 @@ pub trait FlattenInto<Target>: Sized {
     /// that says all may fail promises nothing.
     ghost may_refuse: { Self → Type 0 };
 
-    /// The value with uncompressed names.
+    /// Returns the value with uncompressed names.
     ///
-    /// `ShortBuf` only where octets don't fit or an allocation failed. The value is then dropped.
+    /// # Errors
+    ///
+    /// Returns `ShortBuf` only if octets don't fit or an allocation failed. The value is then dropped.
     fn try_flatten_into(self, alloc: Global) -> Result<Target, ShortBuf>
         ensures ok { IfOk result (λ made. same self made) }
         ensures err { OnErr result (may_refuse self) };
 
-    /// The same as `try_flatten_into`.
+    /// Returns the value with uncompressed names, like `try_flatten_into`.
+    ///
+    /// # Errors
+    ///
+    /// Returns the errors of `try_flatten_into`.
+    ///
+    /// # Examples
     ///
     /// In `crates/examples/src/flattening.rt`, where it is proved:
     ///

@@ -28,9 +28,11 @@ use std::cmp::Ordering;
 /// it returns depends on the name's list of labels alone. How the name is stored decides how fast it is, and for
 /// `to_cow` whether octets are borrowed.
 pub trait ToName<'a>: AbsoluteLabels<'a> {
-    /// The same name in contiguous octets, of a type of the caller's choice.
+    /// Returns the same name in contiguous octets, of a type of the caller's choice.
     ///
-    /// `ShortBuf` where the wire format exceeds a fixed capacity of these octets, or where an allocation failed.
+    /// # Errors
+    ///
+    /// Returns `ShortBuf` if the wire format exceeds a fixed capacity of these octets, or an allocation failed.
     final fn try_to_name<Octs: FromBuilder + Drop>(
         &'a self,
         alloc: Global,
@@ -44,7 +46,13 @@ pub trait ToName<'a>: AbsoluteLabels<'a> {
         self.to_name(alloc)
     }
 
-    /// The same as `try_to_name`.
+    /// Returns the same name in contiguous octets, like `try_to_name`.
+    ///
+    /// # Errors
+    ///
+    /// Returns the errors of `try_to_name`.
+    ///
+    /// # Examples
     ///
     /// In `crates/examples/src/flattening.rt`, where it is proved:
     ///
@@ -76,10 +84,12 @@ pub trait ToName<'a>: AbsoluteLabels<'a> {
         }
     }
 
-    /// The name in contiguous octets with A to Z as a to z, its canonical form (RFC 4034, 6.2), over octets of the
-    /// caller's choice.
+    /// Returns the name with A to Z as a to z, its canonical form (RFC 4034, 6.2), in contiguous octets of a type of
+    /// the caller's choice.
     ///
-    /// The errors are those of `try_to_name`.
+    /// # Errors
+    ///
+    /// Returns the errors of `try_to_name`.
     final fn try_to_canonical_name<Octs: FromBuilder + Drop>(
         &'a self,
         alloc: Global,
@@ -93,7 +103,11 @@ pub trait ToName<'a>: AbsoluteLabels<'a> {
         self.to_canonical_name(alloc)
     }
 
-    /// The same as `try_to_canonical_name`.
+    /// Returns the canonical form of the name, like `try_to_canonical_name`.
+    ///
+    /// # Errors
+    ///
+    /// Returns the errors of `try_to_canonical_name`.
     final fn to_canonical_name<Octs: FromBuilder + Drop>(
         &'a self,
         alloc: Global,
@@ -112,17 +126,24 @@ pub trait ToName<'a>: AbsoluteLabels<'a> {
         }
     }
 
-    /// The same name in contiguous octets, over new octets. `ShortBuf` only where an allocation failed.
+    /// Returns the same name in contiguous octets, over new octets.
+    ///
+    /// # Errors
+    ///
+    /// Returns `ShortBuf` only if an allocation failed.
     final fn to_vec(&'a self, alloc: Global) -> Result<Name<Vec<u8>>, ShortBuf>
         ensures { IfOk result (λ name. name_labels name ≡ Self.labels self.now) }
     {
         self.to_name(alloc)
     }
 
-    /// The same name in contiguous octets. They are borrowed where the name is in contiguous octets already, which
-    /// `as_flat_slice` tells, and new ones else.
+    /// Returns the same name in contiguous octets.
     ///
-    /// `ShortBuf` only where octets are new and an allocation failed.
+    /// They are borrowed if the name is in contiguous octets already, which `as_flat_slice` shows, and new ones else.
+    ///
+    /// # Errors
+    ///
+    /// Returns `ShortBuf` only if the octets are new and an allocation failed.
     final fn to_cow(&'a self, alloc: Global) -> Result<Name<CowSlice<'a, u8>>, ShortBuf>
         ensures ok { IfOk result (λ name. name_labels name ≡ Self.labels self.now) }
         ensures flat { Self.lies_flat self.now →
@@ -133,8 +154,12 @@ pub trait ToName<'a>: AbsoluteLabels<'a> {
 
     /// Appends the wire format, without compression (RFC 1035, 3.1), or nothing.
     ///
-    /// The target's error where the octets don't fit, or where there was no memory for them; the target
-    /// is then as before. Where they fit its spare capacity, there is none.
+    /// # Errors
+    ///
+    /// Returns the target's error only if the octets don't fit or an allocation failed, so never if they fit its spare
+    /// capacity. The octets of the target are then unchanged.
+    ///
+    /// # Examples
     ///
     /// In `crates/examples/src/flattening.rt`, where it is proved:
     ///
@@ -173,7 +198,9 @@ pub trait ToName<'a>: AbsoluteLabels<'a> {
 
     /// Appends the wire format with A to Z as a to z, the canonical form (RFC 4034, 6.2), or nothing.
     ///
-    /// The errors are those of `compose`.
+    /// # Errors
+    ///
+    /// Returns the errors of `compose`. The octets of the target are then unchanged.
     final fn compose_canonical<Target: OctetsBuilder>(
         &'a self,
         target: &mut Target,

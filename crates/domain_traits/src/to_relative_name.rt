@@ -25,9 +25,11 @@ use std::cmp::Ordering;
 /// it returns depends on the name's list of labels alone. How the name is stored decides how fast it is, and for
 /// `to_cow` whether octets are borrowed.
 pub trait ToRelativeName<'a>: RelativeLabels<'a> {
-    /// The same name in contiguous octets, of a type of the caller's choice.
+    /// Returns the same name in contiguous octets, of a type of the caller's choice.
     ///
-    /// `ShortBuf` where the wire format exceeds a fixed capacity of these octets, or where an allocation failed.
+    /// # Errors
+    ///
+    /// Returns `ShortBuf` if the wire format exceeds a fixed capacity of these octets, or an allocation failed.
     final fn try_to_relative_name<Octs: FromBuilder + Drop>(
         &'a self,
         alloc: Global,
@@ -41,7 +43,11 @@ pub trait ToRelativeName<'a>: RelativeLabels<'a> {
         self.to_relative_name(alloc)
     }
 
-    /// The same as `try_to_relative_name`.
+    /// Returns the same name in contiguous octets, like `try_to_relative_name`.
+    ///
+    /// # Errors
+    ///
+    /// Returns the errors of `try_to_relative_name`.
     final fn to_relative_name<Octs: FromBuilder + Drop>(
         &'a self,
         alloc: Global,
@@ -60,9 +66,11 @@ pub trait ToRelativeName<'a>: RelativeLabels<'a> {
         }
     }
 
-    /// The name in contiguous octets with A to Z as a to z (RFC 4034, 6.2), over octets of the caller's choice.
+    /// Returns the name with A to Z as a to z (RFC 4034, 6.2), in contiguous octets of a type of the caller's choice.
     ///
-    /// The errors are those of `try_to_relative_name`.
+    /// # Errors
+    ///
+    /// Returns the errors of `try_to_relative_name`.
     final fn try_to_canonical_relative_name<Octs: FromBuilder + Drop>(
         &'a self,
         alloc: Global,
@@ -76,7 +84,11 @@ pub trait ToRelativeName<'a>: RelativeLabels<'a> {
         self.to_canonical_relative_name(alloc)
     }
 
-    /// The same as `try_to_canonical_relative_name`.
+    /// Returns the name with A to Z as a to z, like `try_to_canonical_relative_name`.
+    ///
+    /// # Errors
+    ///
+    /// Returns the errors of `try_to_canonical_relative_name`.
     final fn to_canonical_relative_name<Octs: FromBuilder + Drop>(
         &'a self,
         alloc: Global,
@@ -95,8 +107,11 @@ pub trait ToRelativeName<'a>: RelativeLabels<'a> {
         }
     }
 
-    /// The same name in contiguous octets, over new octets. `ShortBuf` only where an allocation failed, which the
-    /// name without labels doesn't ask for.
+    /// Returns the same name in contiguous octets, over new octets.
+    ///
+    /// # Errors
+    ///
+    /// Returns `ShortBuf` only if an allocation failed. The name without labels makes none.
     final fn to_vec(&'a self, alloc: Global) -> Result<RelativeName<Vec<u8>>, ShortBuf>
         ensures ok { IfOk result (λ name. relative_labels name ≡ Self.labels self.now) }
         ensures err { OnErr result (0 < length (wire (Self.labels self.now))) }
@@ -104,10 +119,13 @@ pub trait ToRelativeName<'a>: RelativeLabels<'a> {
         self.to_relative_name(alloc)
     }
 
-    /// The same name in contiguous octets. They are borrowed where the name is in contiguous octets already, which
-    /// `as_flat_slice` tells, and new ones else.
+    /// Returns the same name in contiguous octets.
     ///
-    /// `ShortBuf` only where octets are new and an allocation failed; the name without labels has none.
+    /// They are borrowed if the name is in contiguous octets already, which `as_flat_slice` shows, and new ones else.
+    ///
+    /// # Errors
+    ///
+    /// Returns `ShortBuf` only if the octets are new and an allocation failed. The name without labels has no octets.
     final fn to_cow(&'a self, alloc: Global) -> Result<RelativeName<CowSlice<'a, u8>>, ShortBuf>
         ensures ok { IfOk result (λ name. relative_labels name ≡ Self.labels self.now) }
         ensures flat { Self.lies_flat self.now →
@@ -119,8 +137,10 @@ pub trait ToRelativeName<'a>: RelativeLabels<'a> {
 
     /// Appends the wire format of the labels (RFC 1035, 3.1), without a root, or nothing.
     ///
-    /// The target's error where the octets don't fit, or where there was no memory for them; the target
-    /// is then as before. Where they fit its spare capacity, there is none.
+    /// # Errors
+    ///
+    /// Returns the target's error only if the octets don't fit or an allocation failed, so never if they fit its spare
+    /// capacity. The octets of the target are then unchanged.
     final fn compose<Target: OctetsBuilder>(
         &'a self,
         target: &mut Target,
@@ -143,7 +163,9 @@ pub trait ToRelativeName<'a>: RelativeLabels<'a> {
 
     /// Appends the wire format of the labels with A to Z as a to z (RFC 4034, 6.2), or nothing.
     ///
-    /// The errors are those of `compose`.
+    /// # Errors
+    ///
+    /// Returns the errors of `compose`. The octets of the target are then unchanged.
     final fn compose_canonical<Target: OctetsBuilder>(
         &'a self,
         target: &mut Target,
@@ -172,10 +194,13 @@ pub trait ToRelativeName<'a>: RelativeLabels<'a> {
         self.iter_labels().next().is_none()
     }
 
-    /// The labels of this name and then those of the other, as one name. It is absolute where the other
-    /// name is, and relative where that is.
+    /// Returns the labels of this name and then those of the other, as one name.
     ///
-    /// `LongChainError` where more than 254 octets come before any root label.
+    /// It is absolute if the other name is, and relative if that is.
+    ///
+    /// # Errors
+    ///
+    /// Returns `LongChainError` if more than 254 octets come before any root label.
     final fn chain<N: NameLabels + Drop>(self, other: N) -> Result<Chain<Self, N>, LongChainError>
     where
         Self: Sized + Drop,

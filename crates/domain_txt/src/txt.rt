@@ -91,7 +91,7 @@ impl From<TxtError> for ParseError {
 
 /// Text: one character string or more, each of at most 255 octets of any values (RFC 1035, 3.3.14).
 ///
-/// It has at most 65,535 octets, those that tell the lengths of the strings among them. Two are equal, and in order,
+/// It has at most 65,535 octets, those that state the lengths of the strings among them. Two are equal, and in order,
 /// as these octets are: the same text in other strings is other data.
 pub struct Txt<Octs: Octets> {
     octets: Octs,
@@ -116,10 +116,13 @@ impl<Octs: Octets + Drop> Txt<Octs> {
     ghost use Rattle.domain_txt.specs.TxtErrors.{HasTxtFault};
     ghost use Rattle.domain_txt.specs.Txts.{txt_holder};
 
-    /// The data of these octets: strings, each after an octet that tells its length.
+    /// Returns the data of these octets: strings, each after an octet that states its length.
     ///
-    /// `Empty` where there are none, `Long` where they are more than 65,535, `ShortInput` where they end inside of a
-    /// string.
+    /// # Errors
+    ///
+    /// - `Empty` if there are no octets.
+    /// - `Long` if there are more than 65,535.
+    /// - `ShortInput` if they end inside of a string.
     pub fn from_octets(octets: Octs) -> Result<Txt<Octs>, TxtError>
         ensures held { IfOk result (λ it. txt_holder it ≡ octets) }
         ensures err { IfErr result (λ e. HasTxtFault (Octs.octets octets) e) }
@@ -148,7 +151,7 @@ impl<Octs: Octets> Txt<Octs> {
         TxtIter::new(self.octets.as_slice())
     }
 
-    /// The octets of the data: each string after an octet that tells its length.
+    /// The octets of the data: each string after an octet that states its length.
     pub fn as_slice(&self) -> &[u8]
         ensures { result.now ≡ txt_octets self.now }
     {
@@ -169,15 +172,19 @@ impl<Octs: Octets> Txt<Octs> {
         None
     }
 
-    /// How many octets the data has, those that tell the lengths of the strings among them.
+    /// Returns how many octets the data has, those that state the lengths of the strings among them.
     pub fn len(&self) -> usize
         ensures { result ≡ length (txt_octets self.now) }
     {
         self.octets.as_slice().len()
     }
 
-    /// The text: the octets of all strings, with nothing between them. `AllocError` only where memory was refused, and
-    /// so never of strings without an octet: `text_counted` says so of each request.
+    /// Returns the text: the octets of all strings, with nothing between them.
+    ///
+    /// # Errors
+    ///
+    /// Returns `AllocError` only if an allocation failed, and so never for strings without an octet: `text_counted`
+    /// says so of each allocation.
     pub fn text(&self, alloc: Global) -> Result<Vec<u8>, AllocError>
         ensures same { IfOk result (λ text. text.items ≡ concat (txt_strings self.now)) }
         ensures err { OnErr result (0 < length (concat (txt_strings self.now))) }
@@ -196,8 +203,13 @@ impl<Octs: Octets> Txt<Octs> {
         self.text_counted(alloc, &mut Refusals::<L>::new(blank))
     }
 
-    /// The same as `text`, and counts in `refusals`, which contracts alone see, the requests for memory that were
-    /// refused: none where the text is returned, and exactly one where `AllocError` is.
+    /// Returns the text like [`text`](Txt::text), and counts in `refusals` the allocations that failed.
+    ///
+    /// Only contracts see `refusals`. None is counted if the text is returned.
+    ///
+    /// # Errors
+    ///
+    /// Returns the errors of `text`. Exactly one failed allocation is then counted.
     pub fn text_counted<L: Ledger>(
         &self,
         alloc: Global,
@@ -223,8 +235,12 @@ impl<'a> Txt<&'a [u8]> {
 
     /// Reads the data, which is all the remaining octets, and moves the parser to its end.
     ///
-    /// `ShortInput` where no octets remain, or they end inside a string; a form error "record data too long" where
-    /// more than 65,535 octets remain. The parser is then unchanged.
+    /// # Errors
+    ///
+    /// - `ShortInput` if no octets remain, or they end inside a string.
+    /// - A form error "record data too long" if more than 65,535 octets remain.
+    ///
+    /// The parser is then unchanged.
     pub fn parse(parser: &mut Parser<'a>) -> Result<Txt<&'a [u8]>, ParseError>
         ensures ok { IfOk result
             (λ it. TextAt (message parser.old) (position parser.old) (txt_strings it)

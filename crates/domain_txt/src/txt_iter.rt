@@ -5,9 +5,11 @@ ghost use Rattle.domain_txt.specs.OneProof.{HasStrings_prop};
 
 use octseq::ShortInput;
 
-/// Tests that octets are character strings, one after another (RFC 1035, 3.3).
+/// Checks that octets are character strings, one after another (RFC 1035, 3.3).
 ///
-/// `ShortInput` exactly where they end inside of a string.
+/// # Errors
+///
+/// Returns `ShortInput` if and only if they end inside of a string.
 pub fn check_strings(octets: &[u8]) -> Result<(), ShortInput>
     ensures ok { OnOk result (HasStrings octets.now) }
     ensures err { OnErr result (EndsInside octets.now) }
@@ -55,7 +57,7 @@ impl<'a> TxtIter<'a> {
     }
 }
 
-/// The octets of each string, without the one that tells their number.
+/// The octets of each string, without the one that states their number.
 impl<'a> Iterator for TxtIter<'a> {
     ghost use Rattle.std.specs.Iterator.{YieldsFirstBy, item_count};
     ghost use Rattle.domain_txt.specs.TxtViews.{string_of, strings_left};

@@ -23,8 +23,10 @@ pub trait Compose {
 
     /// Appends the octets of the value, or none.
     ///
-    /// It fails only where the octets exceed the spare capacity of the target, so never where they fit. On an error
-    /// the octets of the target are as before.
+    /// # Errors
+    ///
+    /// Returns the target's error only if the octets exceed its spare capacity, so never if they fit. The octets of
+    /// the target are then unchanged.
     fn compose<Target: OctetsBuilder>(&self, target: &mut Target) -> Result<(), Target::AppendError>
         ensures ok { OnOk result
             (GrowsBy Target.Octets target.old (composed_octets self.now) target.new) }
@@ -317,9 +319,11 @@ impl FixedLen for Ipv6Addr {
     ghost fixed = { λ value. exactly_len 16 value.octets };
 }
 
-/// The octets that a call appends to an empty `Vec`.
+/// Returns the octets that a call appends to an empty `Vec`.
 ///
-/// The error is the call's own.
+/// # Errors
+///
+/// Returns the error of the call.
 pub fn compose_vec<F: FnOnce(&mut Vec<u8>) -> Result<(), ShortBuf>>(
     alloc: Global,
     op: F,

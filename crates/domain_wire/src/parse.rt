@@ -37,9 +37,11 @@ pub trait Parse<'a>: Sized {
     /// No value is in the octets at the offset, and the error says why.
     ghost fails_with: { List ℕ → ℕ → ParseError → Type 0 };
 
-    /// Reads a value from the parser's position on, and moves the parser after it.
+    /// Reads a value at the parser's position, and moves the parser after it.
     ///
-    /// An error leaves the parser as it was.
+    /// # Errors
+    ///
+    /// Returns an error if no such value is at the position (`fails_with`). The parser is then unchanged.
     fn parse(parser: &mut Parser<'a>) -> Result<Self, ParseError>
         ensures ok { IfOk result (λ value. Passes encodes parser.old (model value) parser.new) }
         ensures moves { OnOk result (MovesTo parser.old parser.new (position parser.new)) }
@@ -228,10 +230,12 @@ impl<'a, const N: usize> Parse<'a> for [u8; N] {
     ghost lawful = { fixed_reading N (λ octets. octets) };
 }
 
-/// Reads a value that has all of the octets.
+/// Reads a value that takes up all of the octets.
 ///
-/// The error is the call's own, or, where it gives a value and leaves octets, that of form "trailing
-/// data".
+/// # Errors
+///
+/// Returns the error of the call. If the call returns a value and leaves octets unread, returns the form error
+/// "trailing data".
 pub fn parse_slice<'a, T: Drop, E: From<FormError>, F: FnOnce(&mut Parser<'a>) -> Result<T, E>>(
     octets: &'a [u8],
     op: F,

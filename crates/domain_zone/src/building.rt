@@ -109,12 +109,16 @@ impl ZoneBuilder {
         }
     }
 
-    /// Inserts a record. `ttl` is in seconds. The data are octets, in which names aren't compressed.
+    /// Inserts a record.
+    ///
+    /// `ttl` is in seconds. The data are octets, in which names aren't compressed.
     ///
     /// # Errors
     ///
-    /// The first of these that holds: `OtherClass`, `OutOfZone`, `NotDataType`; `Memory` where an allocation failed.
-    /// The builder is unchanged then. The owner and the data are dropped.
+    /// Returns the first of these that holds: `OtherClass`, `OutOfZone`, `NotDataType`. Otherwise, returns `Memory` if
+    /// an allocation failed.
+    ///
+    /// The builder is then unchanged. The owner and the data are dropped.
     pub fn insert(
         &mut self,
         owner: Owner,
@@ -161,15 +165,17 @@ impl ZoneBuilder {
         Ok(())
     }
 
-    /// The zone of the records that were inserted: those of one owner and one type are an RRset, which has equal data
-    /// once. TTLs that differ are lowered to the lowest one of the RRset (RFC 2181, 5 and 5.2). Those of RRSIG records
-    /// are lowered to the lowest one of those that cover the same type (RFC 4034, 3). Where records spell the owner
-    /// differently, the RRset has the spelling of the record with the lowest data.
+    /// Returns the zone of the records that were inserted.
+    ///
+    /// Those of one owner and one type are an RRset, which has equal data once. TTLs that differ are lowered to the
+    /// lowest one of the RRset (RFC 2181, 5 and 5.2). Those of RRSIG records are lowered to the lowest one of those
+    /// that cover the same type (RFC 4034, 3). If records spell the owner differently, the RRset has the spelling of
+    /// the record with the lowest data.
     ///
     /// # Errors
     ///
-    /// `Fault` where the records are no zone: a fault of these RRsets, in canonical order. `Memory` where an
-    /// allocation failed.
+    /// - `Fault` if the records are no zone: a fault of these RRsets, in canonical order.
+    /// - `Memory` if an allocation failed.
     pub fn finish(self, alloc: Global) -> Result<Zone, BuildError>
         ensures holds { IfOk result (λ zone. Holds (inserted self) (zone_view zone).rrsets) }
         ensures apex { IfOk result (λ zone. (zone_view zone).apex ≡ builder_apex self) }

@@ -35,14 +35,15 @@ impl Zone {
     ghost use Rattle.domain_zone.specs.Records.{set_view};
     ghost use Rattle.domain_zone.specs.Zone.{HasType, IsAt};
 
-    /// The zone of these records, all of one class.
+    /// Returns the zone of these records, all of one class.
     ///
     /// The RRsets are in canonical order, those of one owner in ascending order of their types, and the records of
     /// each in ascending order of their data.
     ///
     /// # Errors
     ///
-    /// A fault of the records, which `find_fault` finds: exactly where they are no zone, or aren't in this order.
+    /// Returns a fault of the records, which `find_fault` finds: exactly when they are no zone, or aren't in this
+    /// order.
     pub fn from_records(class: Class, records: ZoneRecords<Owner>) -> Result<Zone, ZoneFault>
         ensures accepts { IsOk result
             ↔ (IsCanonical (records_view records) × IsZone (records_view records)) }

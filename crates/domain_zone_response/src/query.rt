@@ -69,8 +69,8 @@ fn header_fault(header: Header, asked: &Result<Option<OptRecord<'_>>, OptError>)
 ///
 /// - BADVERS where the version of EDNS isn't 0 (RFC 6891, 6.1.3);
 /// - NOTIMP where the opcode isn't QUERY (RFC 1035, 4.1.1);
-/// - FORMERR where an entry is missing, or there isn't one question, or there is more than one OPT record or one that
-///   isn't of the root (RFC 6891, 6.1.1 and 6.1.2);
+/// - FORMERR where an entry is missing, there isn't one question, or there is a second OPT record or one that isn't of
+///   the root (RFC 6891, 6.1.1 and 6.1.2);
 /// - REFUSED where the class isn't this one;
 /// - the code of the question's type.
 pub(crate) fn question_of<'a>(

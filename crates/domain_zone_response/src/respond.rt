@@ -187,17 +187,18 @@ fn answer_from<Target: Composer + Drop>(
     Ok(())
 }
 
-/// Appends to an empty target the message that answers a query from a zone. `None` exactly where none is sent: fewer
-/// than twelve octets are no query, and neither is a response.
+/// Appends to an empty target the message that answers a query from a zone.
 ///
-/// RRsets that don't fit the limit or the target are left out, with TC where one of them is required (RFC 2181, 9).
-/// Where those before them leave the OPT record no room in the target, they are left out, too.
+/// Returns `None` exactly when none is sent: fewer than twelve octets are no query, and neither is a response.
+///
+/// RRsets that don't fit the limit or the target are left out, with TC if one of them is required (RFC 2181, 9). If
+/// those before them leave the OPT record no room in the target, they are left out, too.
 ///
 /// # Errors
 ///
-/// - `NoRoom` only where the target isn't empty, or has no room for the header, the query's first question and the OPT
+/// - `NoRoom` only if the target isn't empty, or has no room for the header, the query's first question and the OPT
 ///   record that the response has.
-/// - `Memory` only where an allocation failed, of a query that the zone answers.
+/// - `Memory` only if an allocation failed, of a query that the zone answers.
 ///
 /// The target is then dropped.
 pub fn respond_to<Target: Composer + Drop>(

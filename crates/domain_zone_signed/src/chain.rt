@@ -90,7 +90,7 @@ fn is_new(answers: &[AnswerRrset<'_>], set: &AnswerRrset<'_>) -> bool
 ///
 /// # Errors
 ///
-/// `AllocError` where an allocation failed. `answers` is then unchanged.
+/// Returns `AllocError` if an allocation failed. `answers` is then unchanged.
 pub(crate) fn push_new<'a>(
     answers: &mut Vec<AnswerRrset<'a>>,
     set: AnswerRrset<'a>,
@@ -127,6 +127,10 @@ fn push_answers<'a>(
 ///
 /// `first` is the response to the question itself, and `names` are those about which the chain goes on to ask, as
 /// `follow` returns them.
+///
+/// # Errors
+///
+/// Returns an error if an allocation failed.
 pub fn respond_along<'a>(
     alloc: Global,
     zone: &'a Zone,

@@ -49,6 +49,10 @@ fn is_new(zone: &Zone, name: &Name<&[u8]>, others: &[Owner], target: &Owner) -> 
 /// Returns the names about which the chain of a question goes on to ask.
 ///
 /// `first` is what the zone answers to the question itself. A question for CNAME, or for all types, isn't followed.
+///
+/// # Errors
+///
+/// Returns an error if an allocation failed.
 pub fn follow(
     alloc: Global,
     zone: &Zone,
@@ -80,6 +84,10 @@ pub fn follow(
 }
 
 /// Returns the names with their octets borrowed.
+///
+/// # Errors
+///
+/// Returns an error if an allocation failed.
 pub fn names_of<'a>(alloc: Global, names: &'a [Owner]) -> Result<Vec<Name<&'a [u8]>>, AllocError>
     ensures { IfOk result (λ it. map name_labels it.items ≡ map name_labels names.now) }
 {

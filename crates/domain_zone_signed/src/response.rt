@@ -142,8 +142,12 @@ fn push_addresses<'a>(
 
 /// Returns the sections of a response that follows a chain, with records of DNSSEC if `dnssec_ok`.
 ///
-/// Then each RRset is followed by the RRSIG records of the zone that cover it, and the authority section has what
-/// denies for each question of the chain (RFC 4035, 3.1.1, 3.1.3 and 3.1.4). Else nothing is added.
+/// If so, each RRset is followed by the RRSIG records of the zone that cover it. The authority section has what denies
+/// for each question of the chain (RFC 4035, 3.1.1, 3.1.3 and 3.1.4). Otherwise nothing is added.
+///
+/// # Errors
+///
+/// Returns an error if an allocation failed.
 pub fn add_dnssec<'a>(
     alloc: Global,
     zone: &'a Zone,

@@ -25,7 +25,9 @@ pub trait OctetsFrom<Src>: Sized {
 
     /// Makes the value.
     ///
-    /// It fails only where the octets don't fit or an allocation failed. The source is dropped then.
+    /// # Errors
+    ///
+    /// Returns an error only if the octets don't fit or an allocation failed. The source is then dropped.
     fn try_octets_from(alloc: Global, source: Src) -> Result<Self, Self::Error>
         ensures ok { IfOk result (λ made. same source made) }
         ensures err { OnErr result (may_refuse source) };

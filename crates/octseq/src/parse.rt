@@ -9,7 +9,7 @@ use std::error::Error;
 use std::fmt;
 use std::ops::Range;
 
-/// Fewer octets were left before the end than a call was to read or pass.
+/// Fewer octets remain before the end than a call was to read or skip.
 #[derive(Clone, Copy, Debug, PartialEq, Eq)]
 pub struct ShortInput;
 
@@ -93,16 +93,18 @@ impl<'a> Parser<'a> {
         self.pos
     }
 
-    /// How many octets are left.
+    /// Returns how many octets remain.
     pub fn remaining(&self) -> usize
         ensures { result ≡ length (left self.now) }
     {
         self.end - self.pos
     }
 
-    /// The next `n` octets, which stay unread.
+    /// Returns the next `n` octets, which stay unread.
     ///
-    /// `ShortInput` where fewer are left.
+    /// # Errors
+    ///
+    /// Returns `ShortInput` if fewer octets remain.
     pub fn peek(&self, n: usize) -> Result<&'a [u8], ShortInput>
         ensures ok { IfOk result (λ octets. octets.now ≡ next self.now n) }
         ensures short { IsErr result ↔ LacksOctets self.now n }
@@ -120,9 +122,11 @@ impl<'a> Parser<'a> {
         &self.octets[self.pos..self.end]
     }
 
-    /// Goes to a position, forwards or back.
+    /// Moves to a position, forwards or back.
     ///
-    /// `ShortInput` where it is past the end.
+    /// # Errors
+    ///
+    /// Returns `ShortInput` if the position is past the end. The parser is then unchanged.
     pub fn seek(&mut self, pos: usize) -> Result<(), ShortInput>
         ensures ok { OnOk result (MovesTo self.old self.new pos) }
         ensures short { IsErr result ↔ (length (message self.old) < pos) }
@@ -135,9 +139,11 @@ impl<'a> Parser<'a> {
         Ok(())
     }
 
-    /// Goes over `n` octets.
+    /// Skips `n` octets.
     ///
-    /// `ShortInput` where fewer are left.
+    /// # Errors
+    ///
+    /// Returns `ShortInput` if fewer octets remain. The parser is then unchanged.
     pub fn advance(&mut self, n: usize) -> Result<(), ShortInput>
         ensures ok { OnOk result (MovesOver self.old self.new n) }
         ensures short { IsErr result ↔ LacksOctets self.old n }
@@ -152,7 +158,9 @@ impl<'a> Parser<'a> {
 
     /// Reads `n` octets.
     ///
-    /// `ShortInput` where fewer are left.
+    /// # Errors
+    ///
+    /// Returns `ShortInput` if fewer octets remain. The parser is then unchanged.
     pub fn parse_octets(&mut self, n: usize) -> Result<&'a [u8], ShortInput>
         ensures ok { IfOk result (λ octets. octets.now ≡ next self.old n) }
         ensures moves { OnOk result (MovesOver self.old self.new n) }
@@ -164,9 +172,13 @@ impl<'a> Parser<'a> {
         Ok(octets)
     }
 
-    /// A parser over the next `n` octets, and goes over them.
+    /// Returns a parser over the next `n` octets, and skips them.
     ///
-    /// Its positions count from the start of the same slice. `ShortInput` where fewer octets are left.
+    /// The positions of the new parser count from the start of the same slice.
+    ///
+    /// # Errors
+    ///
+    /// Returns `ShortInput` if fewer octets remain. The parser is then unchanged.
     pub fn parse_parser(&mut self, n: usize) -> Result<Parser<'a>, ShortInput>
         ensures whole { IfOk result (λ part. slice_of part ≡ slice_of self.old) }
         ensures message { IfOk result
@@ -184,8 +196,10 @@ impl<'a> Parser<'a> {
 
     /// Fills a buffer with the next octets.
     ///
-    /// `ShortInput` where fewer are left than the buffer has room for; the buffer then stays as it
-    /// was.
+    /// # Errors
+    ///
+    /// Returns `ShortInput` if fewer octets remain than the buffer has room for. The parser and the buffer are then
+    /// unchanged.
     pub fn parse_buf(&mut self, buf: &mut [u8]) -> Result<(), ShortInput>
         ensures ok { OnOk result (buf.new ≡ next self.old (length buf.old)) }
         ensures moves { OnOk result (MovesOver self.old self.new (length buf.old)) }
@@ -210,7 +224,11 @@ impl<'a> Parser<'a> {
         Ok(octets)
     }
 
-    /// Reads one octet. `ShortInput` where none is left.
+    /// Reads one octet.
+    ///
+    /// # Errors
+    ///
+    /// Returns `ShortInput` if no octet remains. The parser is then unchanged.
     pub fn parse_u8(&mut self) -> Result<u8, ShortInput>
         ensures ok { IfOk result (λ n. n ≡ from_be_bytes w8 (next self.old 1)) }
         ensures moves { OnOk result (MovesOver self.old self.new 1) }
@@ -220,7 +238,11 @@ impl<'a> Parser<'a> {
         Ok(u8::from_be_bytes(self.parse_array()?))
     }
 
-    /// Reads one octet as a number in two's complement. `ShortInput` where none is left.
+    /// Reads one octet as a number in two's complement.
+    ///
+    /// # Errors
+    ///
+    /// Returns `ShortInput` if no octet remains. The parser is then unchanged.
     pub fn parse_i8(&mut self) -> Result<i8, ShortInput>
         ensures ok { IfOk result (λ n. n ≡ cast_signed w8 (from_be_bytes w8 (next self.old 1))) }
         ensures moves { OnOk result (MovesOver self.old self.new 1) }
@@ -230,7 +252,11 @@ impl<'a> Parser<'a> {
         Ok(i8::from_be_bytes(self.parse_array()?))
     }
 
-    /// Reads two octets as a number, the high one first. `ShortInput` where fewer are left.
+    /// Reads two octets as a number, the high octet first.
+    ///
+    /// # Errors
+    ///
+    /// Returns `ShortInput` if fewer octets remain. The parser is then unchanged.
     pub fn parse_u16_be(&mut self) -> Result<u16, ShortInput>
         ensures ok { IfOk result (λ n. n ≡ from_be_bytes w16 (next self.old 2)) }
         ensures moves { OnOk result (MovesOver self.old self.new 2) }
@@ -240,8 +266,11 @@ impl<'a> Parser<'a> {
         Ok(u16::from_be_bytes(self.parse_array()?))
     }
 
-    /// Reads two octets as a number in two's complement, the high octet first. `ShortInput` where
-    /// fewer are left.
+    /// Reads two octets as a number in two's complement, the high octet first.
+    ///
+    /// # Errors
+    ///
+    /// Returns `ShortInput` if fewer octets remain. The parser is then unchanged.
     pub fn parse_i16_be(&mut self) -> Result<i16, ShortInput>
         ensures ok { IfOk result (λ n. n ≡ cast_signed w16 (from_be_bytes w16 (next self.old 2))) }
         ensures moves { OnOk result (MovesOver self.old self.new 2) }
@@ -251,7 +280,11 @@ impl<'a> Parser<'a> {
         Ok(i16::from_be_bytes(self.parse_array()?))
     }
 
-    /// Reads four octets as a number, the high octet first. `ShortInput` where fewer are left.
+    /// Reads four octets as a number, the high octet first.
+    ///
+    /// # Errors
+    ///
+    /// Returns `ShortInput` if fewer octets remain. The parser is then unchanged.
     pub fn parse_u32_be(&mut self) -> Result<u32, ShortInput>
         ensures ok { IfOk result (λ n. n ≡ from_be_bytes w32 (next self.old 4)) }
         ensures moves { OnOk result (MovesOver self.old self.new 4) }
@@ -261,8 +294,11 @@ impl<'a> Parser<'a> {
         Ok(u32::from_be_bytes(self.parse_array()?))
     }
 
-    /// Reads four octets as a number in two's complement, the high octet first. `ShortInput` where
-    /// fewer are left.
+    /// Reads four octets as a number in two's complement, the high octet first.
+    ///
+    /// # Errors
+    ///
+    /// Returns `ShortInput` if fewer octets remain. The parser is then unchanged.
     pub fn parse_i32_be(&mut self) -> Result<i32, ShortInput>
         ensures ok { IfOk result (λ n. n ≡ cast_signed w32 (from_be_bytes w32 (next self.old 4))) }
         ensures moves { OnOk result (MovesOver self.old self.new 4) }
@@ -272,7 +308,11 @@ impl<'a> Parser<'a> {
         Ok(i32::from_be_bytes(self.parse_array()?))
     }
 
-    /// Reads eight octets as a number, the high octet first. `ShortInput` where fewer are left.
+    /// Reads eight octets as a number, the high octet first.
+    ///
+    /// # Errors
+    ///
+    /// Returns `ShortInput` if fewer octets remain. The parser is then unchanged.
     pub fn parse_u64_be(&mut self) -> Result<u64, ShortInput>
         ensures ok { IfOk result (λ n. n ≡ from_be_bytes w64 (next self.old 8)) }
         ensures moves { OnOk result (MovesOver self.old self.new 8) }
@@ -282,8 +322,11 @@ impl<'a> Parser<'a> {
         Ok(u64::from_be_bytes(self.parse_array()?))
     }
 
-    /// Reads eight octets as a number in two's complement, the high octet first. `ShortInput` where
-    /// fewer are left.
+    /// Reads eight octets as a number in two's complement, the high octet first.
+    ///
+    /// # Errors
+    ///
+    /// Returns `ShortInput` if fewer octets remain. The parser is then unchanged.
     pub fn parse_i64_be(&mut self) -> Result<i64, ShortInput>
         ensures ok { IfOk result (λ n. n ≡ cast_signed w64 (from_be_bytes w64 (next self.old 8))) }
         ensures moves { OnOk result (MovesOver self.old self.new 8) }

@@ -1,4 +1,4 @@
-//! Which names above the one of a question exist: what the two RRsets beside its place tell.
+//! Which names above the one of a question exist: what the two RRsets beside its place show.
 ghost use Rattle.std.specs.Prelude.{◌≡◌, ◌<◌, ◌≤◌, ◌++◌, IsTrue, ◌↔◌, ℕ, List};
 ghost use Rattle.std.specs.Prelude.{length, slice_index_or};
 ghost use Rattle.domain_list.specs.ChainParts.{left_part, right_part};
