@@ -6,6 +6,6 @@ pub mod Later
 pub mod Building
 pub mod Naming
 pub mod Standing
-pub mod Contiguous
+pub mod Runs
 pub mod Tabling
 pub mod Rrsets
