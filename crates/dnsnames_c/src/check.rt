@@ -3,6 +3,7 @@ ghost use Rattle.std.specs.Prelude.{◌≡◌};
 ghost use Rattle.dnsnames_c.specs.Answers.{ChecksAbsolute, ChecksRelative};
 ghost use Rattle.dnsnames_c.specs.Status.{absolute_number, relative_number};
 
+use crate::name::is_name;
 use domain_flat::error::{NameErrorKind, RelativeNameErrorKind};
 use domain_name::{Name, RelativeName};
 
@@ -41,6 +42,10 @@ fn number_of_relative(kind: RelativeNameErrorKind) -> u32
 pub extern "C" fn dnsnames_check(octets: &[u8]) -> u32
     ensures { ChecksAbsolute octets.now result }
 {
+    // Most octets that are passed are a name, and the shorter test finds that.
+    if is_name(octets) {
+        return 0;
+    }
     match Name::from_slice(octets) {
         Ok(_) => 0,
         Err(e) => number_of(e.kind()),

@@ -11,10 +11,10 @@ ghost use Rattle.dnsnames_c.specs.Status.{order_number};
 
 use crate::name::is_name;
 use crate::put::give;
+use domain_flat::is_label_end;
 use domain_flat::iter::first_label;
 use domain_label::Label;
 use domain_label::ignoring_case::same_octets;
-use domain_name::Name;
 use domain_siphash::siphash_2_4;
 use std::cmp::Ordering;
 
@@ -156,6 +156,24 @@ pub extern "C" fn dnsnames_compare(left: &[u8], right: &[u8], answer: &mut i32) 
     0
 }
 
+/// Whether the name ends with the labels of the other without ASCII case: its last octets are those of the other, and
+/// a label begins there.
+#[inline(always)]
+fn ends_in(name: &[u8], suffix: &[u8]) -> bool
+    requires name { IsAbsoluteWire name.now }
+    requires suffix { IsAbsoluteWire suffix.now }
+    ensures { IsTrue result ↔ EndsInName name.now suffix.now }
+{
+    if name.len() < suffix.len() {
+        return false;
+    }
+    let offset = name.len() - suffix.len();
+    if !same_octets(&name[offset..], suffix) {
+        return false;
+    }
+    is_label_end(name, offset)
+}
+
 /// Whether the name ends with the labels of the other without ASCII case: `ends` becomes 1 or 0. 9 where one is no
 /// name.
 #[unsafe(no_mangle)]
@@ -165,10 +183,10 @@ pub extern "C" fn dnsnames_ends_with(name: &[u8], suffix: &[u8], ends: &mut u32)
     ensures bit { result ≡ 0 → ends.new ≤ 1 }
     ensures err { result ≢ 0 → (result ≡ 9) × (ends.new ≡ ends.old) }
 {
-    let (Ok(name), Ok(suffix)) = (Name::from_slice(name), Name::from_slice(suffix)) else {
+    if !is_name(name) || !is_name(suffix) {
         return 9;
-    };
-    *ends = if name.ends_with(&suffix) { 1 } else { 0 };
+    }
+    *ends = if ends_in(name, suffix) { 1 } else { 0 };
     0
 }
 
