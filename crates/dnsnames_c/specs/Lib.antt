@@ -1,6 +1,7 @@
 pub mod Status
 pub mod Answers
 pub mod Comparing
+pub mod Dots
 pub mod Labels
 pub mod Plans
 pub mod Messages

@@ -1,22 +1,21 @@
 //! Names as text.
-ghost use Rattle.std.specs.Prelude.{◌≡◌, ◌↔◌, ◌∷◌, ◌==◌, ◌≤◌, ℕ, List, [], length, take, IsTrue, OnOk, IfErr};
-ghost use Rattle.std.specs.List.{AllByRecursion, flat_map, count_by};
+ghost use Rattle.std.specs.Prelude.{◌≡◌, ◌↔◌, ◌∷◌, ◌==◌, ◌≤◌, ℕ, List, [], length, take, IsTrue, MatchOption, OnOk, IfErr};
+ghost use Rattle.std.specs.List.{AllByRecursion, count_by};
 ghost use Rattle.std.specs.Str.{chars};
-ghost use Rattle.domain_label.specs.Text.{with_dot, or_dot, text_with_final_dot};
+ghost use Rattle.domain_label.specs.Text.{or_dot, text_with_final_dot};
 ghost use Rattle.domain_label.specs.Wire.{IsAbsoluteWire, labels_in, wire};
-ghost use Rattle.domain_list.specs.Dotted.{dotted, IsShown};
+ghost use Rattle.domain_list.specs.Dotted.{IsShown};
 ghost use Rattle.domain_builder.specs.TextErrors.{label_fault, presentation_fault};
 ghost use Rattle.domain_builder.specs.TextGrammar.{IsTextOfName};
+ghost use Rattle.dnsnames_c.specs.Dots.{PutsDots, PutsUnescaped};
 ghost use Rattle.dnsnames_c.specs.Answers.{HasFaultNumber, ReadsText, Gives, GivesNameText, DropsFinalDot, name_text};
 ghost use Rattle.dnsnames_c.specs.Status.{text_number};
 
-use crate::name::is_name;
 use crate::put::give;
 use arrayvec::ArrayVec;
 use domain_builder::text::absolute_into_array;
 use domain_builder::{FromStrError, PresentationErrorKind};
-use domain_flat::NameIter;
-use domain_flat::iter::first_label;
+use domain_flat::{MAX_NAME_LEN, NameIter};
 use domain_label::LabelFromStrErrorKind;
 use domain_label::scan::SymbolCharsError;
 use domain_list::dotted::push_dotted;
@@ -109,38 +108,51 @@ fn has_dots(text: &[u8], dots: u8) -> bool
     shown && found == dots
 }
 
-/// Puts a dot in place of each length octet of a name that lies at the beginning of a buffer, and returns how many
-/// labels it has.
+/// Puts a dot in place of each length octet of octets that lie at the beginning of a buffer, and returns how many
+/// labels they have. `None` where they are no name. They are gone over once.
 #[inline(always)]
-fn put_dots(name: &[u8], octets: &mut [u8; 255]) -> u8
-    requires name { IsAbsoluteWire name.now }
+fn put_dots(name: &[u8], octets: &mut [u8; 255]) -> Option<u8>
+    requires short { length name.now ≤ 255 }
     requires there { take (length name.now) octets.old ≡ name.now }
-    ensures dots { take (length name.now) octets.new ≡ dotted (labels_in name.now) }
-    ensures count { result ≡ length (labels_in name.now) }
+    ensures { MatchOption result (IsAbsoluteWire name.now → ⊥)
+        (λ count. PutsDots name.now octets.new count) }
 {
-    let mut rest = name;
-    let mut at = 0;
+    let mut start = 0;
     let mut count = 0;
-    'labels: while let Some((label, after)) = first_label(rest) {
-        octets[at] = b'.';
-        at += 1 + label.len();
+    'labels: while start < name.len() {
+        octets[start] = b'.';
         count += 1;
-        rest = after;
+        let len = usize::from(name[start]);
+        if len == 0 {
+            let end = start + 1;
+            if end < name.len() {
+                return None;
+            }
+            return Some(count);
+        }
+        if len > 63 {
+            return None;
+        }
+        start += 1 + len;
     }
-    count
+    None
 }
 
-/// Puts a name's text with a final dot, and a dot before it, at the beginning of a buffer. False where an octet is
-/// escaped.
+/// Puts a name's text with a final dot, and a dot before it, at the beginning of a buffer, and returns whether that is
+/// it: false where an octet is escaped. `None` where the octets are no name.
 #[inline(always)]
-fn put_unescaped(name: &[u8], octets: &mut [u8; 255]) -> bool
-    requires { IsAbsoluteWire name.now }
-    ensures { IsTrue result →
-        take (length name.now) octets.new ≡ 46 ∷ flat_map with_dot (labels_in name.now) }
+fn put_unescaped(name: &[u8], octets: &mut [u8; 255]) -> Option<bool>
+    ensures { MatchOption result (IsAbsoluteWire name.now → ⊥)
+        (λ bare. PutsUnescaped name.now octets.new bare) }
 {
+    if name.len() > MAX_NAME_LEN {
+        return None;
+    }
     octets[..name.len()].copy_from_slice(name);
-    let labels = put_dots(name, octets);
-    has_dots(&octets[..name.len()], labels)
+    let Some(labels) = put_dots(name, octets) else {
+        return None;
+    };
+    Some(has_dots(&octets[..name.len()], labels))
 }
 
 /// What follows the dot at the beginning, or that dot where nothing does.
@@ -201,11 +213,11 @@ pub extern "C" fn dnsnames_to_text(
 ) -> u32
     ensures { GivesNameText name.now final_dot result buffer.old buffer.new length.old length.new }
 {
-    if !is_name(name) {
-        return 9;
-    }
     let mut octets = [0; 255];
-    if put_unescaped(name, &mut octets) {
+    let Some(is_bare) = put_unescaped(name, &mut octets) else {
+        return 9;
+    };
+    if is_bare {
         let text = after_dot(&octets[..name.len()]);
         return give_text(text, final_dot, buffer, length);
     }
