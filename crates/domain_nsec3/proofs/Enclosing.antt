@@ -5,9 +5,10 @@ use Rattle.std.proofs.lemmas.List.Elements.{AllWithin-upto}
 use Rattle.std.proofs.lemmas.List.Folds.{none_from_all_within}
 use Rattle.domain_flat.specs.Flat.{suffix_lists}
 use Rattle.domain_name.specs.Names.{name_labels}
-use Rattle.domain_nsec3.specs.Enclosers.{MatchesAt, CoversAt, IsEncloserProof}
+use Rattle.domain_nsec3.specs.Enclosers.{MatchesAt, MatchesWithAt, CoversAt, IsEncloserProof}
 use Rattle.domain_nsec3.specs.Hashing.{nsec3_hash, wildcard_at}
 use Rattle.domain_nsec3.specs.NameErrors.{IsNameErrorProof}
+use Rattle.domain_nsec3.specs.Types.{MayEnclose}
 use Rattle.domain_nsec3.specs.declared.encloser.EncloserProof.{EncloserProof}
 use Rattle.domain_nsec3.specs.declared.encloser.HashedRecord.{HashedRecord}
 use Rattle.domain_nsec3.specs.declared.denial.NameErrorProof.{NameErrorProof}
@@ -65,6 +66,18 @@ matches_name rs k salt x name i is m = subst (λ (y : List ℕ). MatchesAt rs k 
 pub covers_name : (rs : List HashedRecord) (k : ℕ) (salt x : List ℕ) (name : List (List ℕ)) (i : ℕ) → x ≡ nsec3_hash salt k name → CoversAt rs k salt x i → CoversAt rs k salt (nsec3_hash salt k name) i
 covers_name rs k salt x name i is m = subst (λ (y : List ℕ). CoversAt rs k salt y i) is m
 
+pub matches_with_name : (P : List ℕ → Type 0) (rs : List HashedRecord) (k : ℕ) (salt x : List ℕ) (name : List (List ℕ)) (i : ℕ) → x ≡ nsec3_hash salt k name → MatchesWithAt P rs k salt x i
+    → MatchesWithAt P rs k salt (nsec3_hash salt k name) i
+matches_with_name P rs k salt x name i is m = subst (λ (y : List ℕ). MatchesWithAt P rs k salt y i) is m
+
+pub none_matches_with : (P : List ℕ → Type 0) (rs : List HashedRecord) (k : ℕ) (salt x : List ℕ) (name : List (List ℕ)) → x ≡ nsec3_hash salt k name → ((i : ℕ) → MatchesWithAt P rs k salt x i → ⊥)
+    → (i : ℕ) → MatchesWithAt P rs k salt (nsec3_hash salt k name) i → ⊥
+none_matches_with P rs k salt x name is none i m = none i (subst (λ (y : List ℕ). MatchesWithAt P rs k salt y i) (sym is) m)
+
+-- a record that matches, whatever its types
+pub some_match : (P : List ℕ → Type 0) (rs : List HashedRecord) (k : ℕ) (salt x : List ℕ) (i : ℕ) → MatchesWithAt P rs k salt x i → MatchesAt rs k salt x i
+some_match P rs k salt x i m = (m.0, λ d. (m.1 d).0)
+
 pub none_matches : (rs : List HashedRecord) (k : ℕ) (salt x : List ℕ) (name : List (List ℕ)) → x ≡ nsec3_hash salt k name → ((i : ℕ) → MatchesAt rs k salt x i → ⊥)
     → (i : ℕ) → MatchesAt rs k salt (nsec3_hash salt k name) i → ⊥
 none_matches rs k salt x name is none i m = none i (subst (λ (y : List ℕ). MatchesAt rs k salt y i) (sym is) m)
@@ -108,12 +121,17 @@ next_none rs k salt labels closer above old left h taken none =
       none = none_but rs k salt labels above (n + 1) t.1 none (λ (j i : ℕ) (low : j + 1 ≤ n + 1). h.none j i (omega (arith, low)));
     }
 
+-- the record of a proof matches the closest encloser
+pub closest_matched : (rs : List HashedRecord) (k : ℕ) (salt : List ℕ) (labels : List (List ℕ)) (it : EncloserProof) → (p : IsEncloserProof rs k salt labels it)
+    → MatchesAt rs k salt (nsec3_hash salt k (drop (p.before + 1) labels)) it.matching
+closest_matched rs k salt labels it p =
+    subst (λ (x : List (List ℕ)). MatchesAt rs k salt (nsec3_hash salt k x) it.matching) p.closest (some_match MayEnclose rs k salt (nsec3_hash salt k (name_labels it.closest)) it.matching p.matched)
+
 pub at_end : (rs : List HashedRecord) (k : ℕ) (salt : List ℕ) (labels closer : List (List ℕ)) (old : List (List (List ℕ))) → HasNoMatch rs k salt labels closer old → old ≡ []
     → (it : EncloserProof) → IsEncloserProof rs k salt labels it → ⊥
 at_end rs k salt labels closer old h empty it p =
     let end : length labels ≤ h.before + 1 = no_suffix labels (h.before + 1) (sym h.left_is ∙ empty) in
-    h.none (p.before + 1) it.matching (omega (arith, p.within, end))
-    (subst (λ (x : List (List ℕ)). MatchesAt rs k salt (nsec3_hash salt k x) it.matching) p.closest p.matched)
+    h.none (p.before + 1) it.matching (omega (arith, p.within, end)) (closest_matched rs k salt labels it p)
 
 pub uncovered : (rs : List HashedRecord) (k : ℕ) (salt : List ℕ) (labels closer above : List (List ℕ)) (old left : List (List (List ℕ))) (i : ℕ) → HasNoMatch rs k salt labels closer old → old ≡ above ∷ left
     → MatchesAt rs k salt (nsec3_hash salt k above) i → ((j : ℕ) → CoversAt rs k salt (nsec3_hash salt k closer) j → ⊥) → (it : EncloserProof) → IsEncloserProof rs k salt labels it → ⊥
@@ -121,14 +139,28 @@ uncovered rs k salt labels closer above old left i h taken m none it p =
     let n = h.before in
     let t = suffix_taken labels above (n + 1) left (sym h.left_is ∙ taken) in
     ⊎_elim
-    (λ (low : p.before + 1 ≤ n). h.none (p.before + 1) it.matching low (subst (λ (x : List (List ℕ)). MatchesAt rs k salt (nsec3_hash salt k x) it.matching) p.closest p.matched))
+    (λ (low : p.before + 1 ≤ n). h.none (p.before + 1) it.matching low (closest_matched rs k salt labels it p))
     (λ (q : (p.before ≡ n) ⊎ (n + 1 ≤ p.before)). ⊎_elim
     (λ (e : p.before ≡ n). none it.covering (subst (λ (x : List (List ℕ)). CoversAt rs k salt (nsec3_hash salt k x) it.covering) (p.next_closer ∙ (ap (λ (y : ℕ). drop y labels) e ∙ sym h.closer_is)) p.covered))
     (λ (high : n + 1 ≤ p.before). p.longest (n + 1) i high (subst (λ (x : List (List ℕ)). MatchesAt rs k salt (nsec3_hash salt k x) i) t.1 m)) q)
     (apart p.before n)
 
+-- each record that matches the closest encloser has types by which it may not be one
+pub barred : (rs : List HashedRecord) (k : ℕ) (salt : List ℕ) (labels closer above : List (List ℕ)) (old left : List (List (List ℕ))) (i : ℕ) → HasNoMatch rs k salt labels closer old → old ≡ above ∷ left
+    → MatchesAt rs k salt (nsec3_hash salt k above) i → ((j : ℕ) → MatchesWithAt MayEnclose rs k salt (nsec3_hash salt k above) j → ⊥) → (it : EncloserProof) → IsEncloserProof rs k salt labels it → ⊥
+barred rs k salt labels closer above old left i h taken m none it p =
+    let n = h.before in
+    let t = suffix_taken labels above (n + 1) left (sym h.left_is ∙ taken) in
+    ⊎_elim
+    (λ (low : p.before + 1 ≤ n). h.none (p.before + 1) it.matching low (closest_matched rs k salt labels it p))
+    (λ (q : (p.before ≡ n) ⊎ (n + 1 ≤ p.before)). ⊎_elim
+    (λ (e : p.before ≡ n). none it.matching
+    (subst (λ (x : List (List ℕ)). MatchesWithAt MayEnclose rs k salt (nsec3_hash salt k x) it.matching) (p.closest ∙ (ap (λ (y : ℕ). drop (y + 1) labels) e ∙ sym t.1)) p.matched))
+    (λ (high : n + 1 ≤ p.before). p.longest (n + 1) i high (subst (λ (x : List (List ℕ)). MatchesAt rs k salt (nsec3_hash salt k x) i) t.1 m)) q)
+    (apart p.before n)
+
 pub proved : (rs : List HashedRecord) (k : ℕ) (salt : List ℕ) (labels closer above : List (List ℕ)) (old left : List (List (List ℕ))) (it : EncloserProof) → HasNoMatch rs k salt labels closer old → old ≡ above ∷ left
-    → name_labels it.next_closer ≡ closer → name_labels it.closest ≡ above → MatchesAt rs k salt (nsec3_hash salt k (name_labels it.closest)) it.matching
+    → name_labels it.next_closer ≡ closer → name_labels it.closest ≡ above → MatchesWithAt MayEnclose rs k salt (nsec3_hash salt k (name_labels it.closest)) it.matching
     → CoversAt rs k salt (nsec3_hash salt k (name_labels it.next_closer)) it.covering → IsEncloserProof rs k salt labels it
 proved rs k salt labels closer above old left it h taken is_closer is_above m c =
     let t = suffix_taken labels above (h.before + 1) left (sym h.left_is ∙ taken) in
@@ -138,16 +170,16 @@ proved rs k salt labels closer above old left it h taken is_closer is_above m c 
 
 not_below : (rs : List HashedRecord) (k : ℕ) (salt : List ℕ) (labels : List (List ℕ)) (a b : EncloserProof) → (p : IsEncloserProof rs k salt labels a) → (q : IsEncloserProof rs k salt labels b) → p.before + 1 ≤ q.before → ⊥
 not_below rs k salt labels a b p q low =
-    q.longest (p.before + 1) a.matching low (subst (λ (x : List (List ℕ)). MatchesAt rs k salt (nsec3_hash salt k x) a.matching) p.closest p.matched)
+    q.longest (p.before + 1) a.matching low (closest_matched rs k salt labels a p)
 
-one_before : (rs : List HashedRecord) (k : ℕ) (salt : List ℕ) (labels : List (List ℕ)) (a b : EncloserProof) → (p : IsEncloserProof rs k salt labels a) → (q : IsEncloserProof rs k salt labels b) → p.before ≡ q.before
+pub one_before : (rs : List HashedRecord) (k : ℕ) (salt : List ℕ) (labels : List (List ℕ)) (a b : EncloserProof) → (p : IsEncloserProof rs k salt labels a) → (q : IsEncloserProof rs k salt labels b) → p.before ≡ q.before
 one_before rs k salt labels a b p q =
     ⊎_elim (λ (h : p.before + 1 ≤ q.before). absurd (not_below rs k salt labels a b p q h))
     (λ (s : (p.before ≡ q.before) ⊎ (q.before + 1 ≤ p.before)). ⊎_elim (λ (e : p.before ≡ q.before). e) (λ (h : q.before + 1 ≤ p.before). absurd (not_below rs k salt labels b a q p h)) s)
     (apart p.before q.before)
 
 -- two proofs are of one closest encloser
-one_closest : (rs : List HashedRecord) (k : ℕ) (salt : List ℕ) (labels : List (List ℕ)) (a b : EncloserProof) → IsEncloserProof rs k salt labels a → IsEncloserProof rs k salt labels b → name_labels a.closest ≡ name_labels b.closest
+pub one_closest : (rs : List HashedRecord) (k : ℕ) (salt : List ℕ) (labels : List (List ℕ)) (a b : EncloserProof) → IsEncloserProof rs k salt labels a → IsEncloserProof rs k salt labels b → name_labels a.closest ≡ name_labels b.closest
 one_closest rs k salt labels a b p q = p.closest ∙ (ap (λ (n : ℕ). drop (n + 1) labels) (one_before rs k salt labels a b p q) ∙ sym q.closest)
 
 pub error_none : (rs : List HashedRecord) (k : ℕ) (salt : List ℕ) (labels : List (List ℕ)) → ((it : EncloserProof) → IsEncloserProof rs k salt labels it → ⊥) → (it : NameErrorProof) → IsNameErrorProof rs k salt labels it → ⊥

@@ -2,6 +2,8 @@ pub mod Iterating
 pub mod Fields
 pub mod Digits
 pub mod Reading
+pub mod Typing
 pub mod Enclosing
 pub mod Chaining
 pub mod Responding
+pub mod Validating

@@ -2,8 +2,11 @@ pub mod Hashing
 pub mod Covering
 pub mod Records
 pub mod Labels
+pub mod Types
+pub mod TypeViews
 pub mod Enclosers
 pub mod Chains
 pub mod ChainViews
 pub mod Responses
 pub mod NameErrors
+pub mod Denials

@@ -45,7 +45,7 @@ fn find_error<'n>(
 /// the records have none.
 ///
 /// That is the proof of [`closest_encloser`](crate::closest_encloser), and a record that covers the wildcard at the
-/// closest encloser. The caller provides the records and tests types as for `closest_encloser`. Where the record that
+/// closest encloser. The caller provides the records and the name as for `closest_encloser`. Where the record that
 /// covers the next closer name has Opt-Out, the name can still be an unsigned delegation (RFC 5155, 6). Nothing is
 /// allocated, and at most 130 names are hashed.
 ///

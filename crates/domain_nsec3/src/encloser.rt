@@ -2,11 +2,14 @@
 ghost use Rattle.std.specs.Prelude.{◌↔◌, ◌<◌, ℕ, IsTrue, IsErr, IfOk, IfSome, IfNone};
 ghost use Rattle.domain_name.specs.Names.{name_labels};
 ghost use Rattle.domain_nsec3.specs.Enclosers.{Covers, CoversAt, IsEncloserProof, IsUsedFor, Matches, MatchesAt};
+ghost use Rattle.domain_nsec3.specs.Enclosers.{MatchesWith, MatchesWithAt};
+ghost use Rattle.domain_nsec3.specs.TypeViews.{Meets};
 ghost use Rattle.domain_nsec3.specs.declared.encloser.EncloserProof.{EncloserProof};
 
 use crate::covering::{covers, matches};
 use crate::hashing::{HASH_LEN, TooManyIterations, name_hash};
 use crate::record::Nsec3;
+use crate::types::{Needs, satisfy};
 use domain_name::{Name, SuffixIter};
 use octseq::Octets;
 
@@ -46,8 +49,26 @@ fn is_matching(record: &HashedRecord<'_>, iterations: u16, salt: &[u8], hash: &[
     is_used_for(record, iterations, salt) && matches(&record.owner, hash)
 }
 
+/// Whether a record is used for such hashes, matches one, and has the types that a proof needs.
+fn is_matching_with(
+    record: &HashedRecord<'_>,
+    iterations: u16,
+    salt: &[u8],
+    hash: &[u8],
+    needs: Needs,
+) -> bool
+    ensures { IsTrue result ↔ MatchesWith (Meets needs) iterations salt.now hash.now record.now }
+{
+    is_matching(record, iterations, salt, hash) && satisfy(record.data.types, needs)
+}
+
 /// Whether a record is used for such hashes, and covers one.
-fn is_covering(record: &HashedRecord<'_>, iterations: u16, salt: &[u8], hash: &[u8]) -> bool
+pub(crate) fn is_covering(
+    record: &HashedRecord<'_>,
+    iterations: u16,
+    salt: &[u8],
+    hash: &[u8],
+) -> bool
     ensures { IsTrue result ↔ Covers iterations salt.now hash.now record.now }
 {
     is_used_for(record, iterations, salt) && covers(&record.owner, record.data.next, hash)
@@ -66,6 +87,27 @@ fn matching_index(
 {
     for i in 0..records.len() {
         if is_matching(&records[i], iterations, salt, hash) {
+            return Some(i);
+        }
+    }
+    None
+}
+
+/// The index of the first record that matches a hash and has the types that a proof needs.
+pub(crate) fn matching_with_index(
+    records: &[HashedRecord<'_>],
+    iterations: u16,
+    salt: &[u8],
+    hash: &[u8],
+    needs: Needs,
+) -> Option<usize>
+    ensures some { IfSome result
+        (MatchesWithAt (Meets needs) records.now iterations salt.now hash.now) }
+    ensures none { IfNone result ((i : ℕ) →
+        MatchesWithAt (Meets needs) records.now iterations salt.now hash.now i → ⊥) }
+{
+    for i in 0..records.len() {
+        if is_matching_with(&records[i], iterations, salt, hash, needs) {
             return Some(i);
         }
     }
@@ -114,7 +156,11 @@ pub(crate) fn find_encloser<'n>(
     let mut next_closer = first;
     'suffix: while let Some(closest) = suffixes.next() {
         let hash = name_hash(&closest, iterations, salt);
-        if let Some(matching) = matching_index(records, iterations, salt, &hash) {
+        if let Some(_first) = matching_index(records, iterations, salt, &hash) {
+            let needs = Needs::Encloser;
+            let Some(matching) = matching_with_index(records, iterations, salt, &hash, needs) else {
+                return None;
+            };
             let closer_hash = name_hash(&next_closer, iterations, salt);
             let Some(covering) = covering_index(records, iterations, salt, &closer_hash) else {
                 return None;
@@ -135,11 +181,13 @@ pub(crate) fn find_encloser<'n>(
 /// exactly where they prove none.
 ///
 /// The closest encloser is the longest suffix of the name that a record matches. It is proved if it isn't the name
-/// itself, and a record covers the next closer name, which has one label more. Records with another salt, number of
-/// iterations or hash algorithm, or with an unknown flag, aren't used (RFC 5155, 8.1 and 8.2).
+/// itself, and a record covers the next closer name, which has one label more. By the types of the record that matches,
+/// it must be neither the owner of a DNAME nor a delegation: DNAME isn't there, and NS only beside SOA (RFC 5155, 8.3;
+/// RFC 6840, 4.1).
 ///
-/// The caller provides records of one zone whose signatures hold. It must also test the types of the record that
-/// matches: no DNAME, and no NS without SOA (RFC 5155, 8.3). Nothing is allocated, and at most 129 names are hashed.
+/// Records with another salt, number of iterations or hash algorithm, or with an unknown flag, aren't used (RFC 5155,
+/// 8.1 and 8.2). A record whose `types` aren't type bitmaps proves no encloser. The caller provides records of one zone
+/// whose signatures hold, and a name in that zone. Nothing is allocated, and at most 129 names are hashed.
 ///
 /// # Errors
 ///

@@ -1,8 +1,12 @@
 //! The data of NSEC3 and NSEC3PARAM records (RFC 5155, 3.2 and 4.2).
-ghost use Rattle.std.specs.Prelude.{◌≡◌, ◌↔◌, ◌+◌, ◌%◌, ◌≤◌, ◌<◌, IsTrue, IfOk, IfErr, OnOk, length, slice_index};
+ghost use Rattle.std.specs.Prelude.{◌≡◌, ◌↔◌, ◌+◌, ◌%◌, ◌≤◌, ◌<◌, IsTrue, IfSome, IfNone, IfOk, IfErr, OnOk, length, slice_index};
+ghost use Rattle.std.specs.List.{Contains};
 ghost use Rattle.domain_descriptor.specs.Fields.{AreData, AreNoData};
 ghost use Rattle.domain_descriptor.specs.Table.{known_fields};
+ghost use Rattle.domain_dnssec.specs.TypeBitmaps.{HasBlocks};
+ghost use Rattle.domain_nsec3.specs.Types.{TypesSatisfy};
 
+use crate::types::Types;
 use domain_descriptor::table::CLASS_IN;
 use domain_descriptor::{DataFault, check_data};
 
@@ -91,6 +95,19 @@ impl<'m> Nsec3<'m> {
             next: &data[salt_end + 1..next_end],
             types: &data[next_end..],
         })
+    }
+
+    /// Returns whether a type is in the type bitmaps (RFC 4034, 4.1.2). `None` exactly where `types` aren't type bitmaps:
+    /// they are blocks, or no octet.
+    pub fn has_type(&self, rtype: u16) -> Option<bool>
+        ensures some { IfSome result (λ has.
+            TypesSatisfy (λ types. IsTrue has ↔ Contains types rtype) self.now.types.now) }
+        ensures none { IfNone result (HasBlocks 0 self.now.types.now → ⊥) }
+    {
+        let Some(types) = Types::read(self.types) else {
+            return None;
+        };
+        Some(types.has(rtype))
     }
 
     /// Whether the record has Opt-Out: whether names that it covers can be unsigned delegations (RFC 5155, 3.1.2.1).

@@ -31,9 +31,9 @@ pub struct ProofIndices {
 
 /// The next closer name of a name, and its closest encloser.
 #[derive(Clone, Copy)]
-struct Split<'n> {
-    closer: Name<&'n [u8]>,
-    closest: Name<&'n [u8]>,
+pub(crate) struct Split<'n> {
+    pub(crate) closer: Name<&'n [u8]>,
+    pub(crate) closest: Name<&'n [u8]>,
 }
 
 /// One index.
@@ -240,7 +240,7 @@ fn unsigned_in(records: &[HashedRecord<'_>], name: Name<&[u8]>) -> Option<ProofI
 }
 
 /// The next closer name and the closest encloser, which has this many labels.
-fn split_at<'n>(name: Name<&'n [u8]>, labels: usize) -> Option<Split<'n>>
+pub(crate) fn split_at<'n>(name: Name<&'n [u8]>, labels: usize) -> Option<Split<'n>>
     ensures some { IfSome result (λ it. IsSplitOf (name_labels name.entry) labels
         (name_labels it.closer) (name_labels it.closest)) }
     ensures none { IfNone result ((before : ℕ) →

@@ -6,7 +6,7 @@ use crate::{
 use domain_name::Name;
 
 /// The salt of the zone.
-const SALT: [u8; 4] = [0xaa, 0xbb, 0xcc, 0xdd];
+pub(crate) const SALT: [u8; 4] = [0xaa, 0xbb, 0xcc, 0xdd];
 
 /// The data of the zone's first NSEC3 record, that of its apex.
 const FIRST: [u8; 39] = [
@@ -16,7 +16,7 @@ const FIRST: [u8; 39] = [
 ];
 
 /// The hash of a name in the zone.
-fn hash_of(name: &[u8]) -> [u8; 20] {
+pub(crate) fn hash_of(name: &[u8]) -> [u8; 20] {
     let Ok(name) = Name::from_slice(name) else {
         return [0; 20];
     };
@@ -298,7 +298,7 @@ fn enclosers(rt: HostRuntime) {
 
 /// The hashes of the zone's records, in hash order: those of example., ns1, x.y.w, a, x.w, ai, y.w, w, the name whose
 /// label is a hash, ns2, *.w and xx (RFC 5155, A).
-fn zone_hashes() -> [[u8; 20]; 12] {
+pub(crate) fn zone_hashes() -> [[u8; 20]; 12] {
     [
         hash_in(b"0p9mhaveqvm6t7vbl5lop2u3t2rp3tom"),
         hash_in(b"2t7b4g4vsa5smi47k61mv5bv1a22bojr"),
