@@ -11,7 +11,7 @@ use Rattle.domain_nsec3.specs.Types.{TypesSatisfy}
 
 -- ---- members
 
-none_in : (t : ℕ) → Contains [] t → ⊥
+pub none_in : (t : ℕ) → Contains [] t → ⊥
 none_in t p = omega (arith, p.1)
 
 first_in : (x t : ℕ) (xs : List ℕ) → x ≡ t → Contains (x ∷ xs) t
@@ -50,7 +50,7 @@ pub no_octets : (o : List ℕ) → (length o == 0) ≡ true → TypesSatisfy (λ
 no_octets [] e = (([], refl, tt), refl)
 no_octets (c ∷ o) e = absurd (omega (arith, eqb-true (length (c ∷ o)) 0 e))
 
-abbrev AreSmall : List ℕ → Type 0
+abbrev pub AreSmall : List ℕ → Type 0
 AreSmall o = (i : ℕ) → get_or o i 0 < 256
 
 -- blocks have at most 8,704 octets: 34 for each of 256 windows

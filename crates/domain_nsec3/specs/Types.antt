@@ -37,11 +37,14 @@ MayEnclose types = (Contains types DNAME → ⊥) × IsNoDelegation types
 abbrev pub IsRecordType : ℕ → Type 0
 IsRecordType t = (t < 128) ⊎ (255 < t)
 
--- The record is of the zone that would have records of the type t at a name of so many labels. DS is in the zone above
--- a delegation: its record there has no SOA, unless the name is the root (RFC 6840, 4.4). Others are in the zone below.
+-- If the name isn't the root, SOA isn't there. Else the record is of the apex of a zone, and of DS, which is in the zone
+-- above, it proves nothing (RFC 6840, 4.4).
+abbrev pub IsNoChildApex : ℕ → List ℕ → Type 0
+IsNoChildApex count types = 1 < count → Contains types SOA → ⊥
+
+-- The record is of the zone that would have records of the type t at a name of so many labels.
 abbrev pub IsOfZoneOf : ℕ → ℕ → List ℕ → Type 0
-IsOfZoneOf t count types =
-    ((t ≡ DS) × (1 < count) → Contains types SOA → ⊥) × ((t ≡ DS → ⊥) → IsNoDelegation types)
+IsOfZoneOf t count types = (t ≡ DS → IsNoChildApex count types) × ((t ≡ DS → ⊥) → IsNoDelegation types)
 
 -- A name of so many labels has no data of the type t: neither t nor CNAME is there (RFC 5155, 8.5 and 8.6; RFC 6840,
 -- 4.3), and the record is of the zone that would have t.

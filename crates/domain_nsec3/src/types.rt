@@ -4,8 +4,8 @@ ghost use Rattle.std.specs.List.{Contains};
 ghost use Rattle.domain_dnssec.specs.BitmapViews.{bitmaps_types};
 ghost use Rattle.domain_dnssec.specs.TypeBitmaps.{HasBlocks};
 ghost use Rattle.domain_nsec3.specs.TypeViews.{held_types, Meets};
-ghost use Rattle.domain_nsec3.specs.Types.{DelegateUnsigned, HaveNoData, IsNoDelegation, IsOfZoneOf, IsRecordType};
-ghost use Rattle.domain_nsec3.specs.Types.{MayEnclose, TypesSatisfy};
+ghost use Rattle.domain_nsec3.specs.Types.{DelegateUnsigned, HaveNoData, IsNoChildApex, IsNoDelegation, IsOfZoneOf};
+ghost use Rattle.domain_nsec3.specs.Types.{IsRecordType, MayEnclose, TypesSatisfy};
 
 use domain_dnssec::TypeBitmaps;
 
@@ -75,6 +75,7 @@ impl<'m> Types<'m> {
     }
 
     /// Whether a type is among them.
+    #[tactic(auto, using(crate::proofs::Typing::none_in))]
     pub(crate) fn has(&self, rtype: u16) -> bool
         ensures { IsTrue result ↔ Contains (held_types self.now) rtype }
     {
@@ -83,20 +84,32 @@ impl<'m> Types<'m> {
             None => false,
         }
     }
+
+    /// Whether a type isn't among them.
+    fn lacks(&self, rtype: u16) -> bool
+        ensures { IsTrue result ↔ (Contains (held_types self.now) rtype → ⊥) }
+    {
+        !self.has(rtype)
+    }
 }
 
 /// Whether NS is there only beside SOA.
 fn is_no_delegation(types: &Types<'_>) -> bool
     ensures { IsTrue result ↔ IsNoDelegation (held_types types.now) }
 {
-    !types.has(NS) || types.has(SOA)
+    let apex = types.has(SOA);
+    let cut = types.has(NS);
+    if cut {
+        return apex;
+    }
+    true
 }
 
 /// Whether a name with these types may be a closest encloser.
 fn may_enclose(types: &Types<'_>) -> bool
     ensures { IsTrue result ↔ MayEnclose (held_types types.now) }
 {
-    !types.has(DNAME) && is_no_delegation(types)
+    types.lacks(DNAME) && is_no_delegation(types)
 }
 
 /// Whether a zone can have records of a type.
@@ -106,14 +119,32 @@ fn is_record_type(rtype: u16) -> bool
     rtype < 128 || rtype > 255
 }
 
+/// Whether SOA isn't there, or the name is the root.
+fn is_no_child_apex(types: &Types<'_>, labels: usize) -> bool
+    ensures { IsTrue result ↔ IsNoChildApex labels (held_types types.now) }
+{
+    if labels > 1 {
+        return types.lacks(SOA);
+    }
+    true
+}
+
+/// Whether a type is DS.
+fn is_ds(rtype: u16) -> bool
+    ensures { IsTrue result ↔ (rtype ≡ 43) }
+{
+    rtype == DS
+}
+
 /// Whether the types are of the zone that would have records of a type, at a name of so many labels.
 fn is_of_zone_of(types: &Types<'_>, rtype: u16, labels: usize) -> bool
     ensures { IsTrue result ↔ IsOfZoneOf rtype labels (held_types types.now) }
 {
-    if rtype != DS {
-        return is_no_delegation(types);
+    let above = is_ds(rtype);
+    if above {
+        return is_no_child_apex(types, labels);
     }
-    labels <= 1 || !types.has(SOA)
+    is_no_delegation(types)
 }
 
 /// Whether a name of so many labels with these types has no data of a type.
@@ -121,8 +152,8 @@ fn have_no_data(types: &Types<'_>, labels: usize, rtype: u16) -> bool
     ensures { IsTrue result ↔ HaveNoData labels rtype (held_types types.now) }
 {
     is_record_type(rtype)
-        && !types.has(rtype)
-        && !types.has(CNAME)
+        && types.lacks(rtype)
+        && types.lacks(CNAME)
         && is_of_zone_of(types, rtype, labels)
 }
 
@@ -130,7 +161,7 @@ fn have_no_data(types: &Types<'_>, labels: usize, rtype: u16) -> bool
 fn delegate_unsigned(types: &Types<'_>) -> bool
     ensures { IsTrue result ↔ DelegateUnsigned (held_types types.now) }
 {
-    types.has(NS) && !types.has(DS) && !types.has(SOA)
+    types.has(NS) && types.lacks(DS) && types.lacks(SOA)
 }
 
 /// Whether types are as a proof needs them.
