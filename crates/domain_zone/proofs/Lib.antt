@@ -4,7 +4,7 @@ pub mod Nodes
 pub mod Total
 pub mod Underneath
 pub mod Lists
-pub mod Cuts
+pub mod CutSearch
 pub mod Places
 pub mod NeighbourLaws
 pub mod Evaluating

@@ -14,8 +14,8 @@ pub mod Members
 pub mod Ttls
 pub mod Same
 pub mod Alike
-pub mod Reading
-pub mod Loading
+pub mod ReadingText
+pub mod LoadingText
 pub mod Wording
 pub mod Worded
 pub mod Below

@@ -35,7 +35,7 @@ use Rattle.domain_zonefile.specs.Meanings.Said.{nothing, line, record_front}
 use Rattle.domain_zonefile.specs.Reading.{entry_said, EntrySaid, HasData, HasNames, IsFrontData, ReadsEntry}
 use Rattle.domain_zonefile.specs.Reading.EntrySaid.{blank, directive_line, resource_record}
 use Rattle.domain_zonefile.proofs.Members.{all_from, in_cases, later_in, first_in, none_in}
-use Rattle.domain_zonefile.proofs.Reading.{next_reads}
+use Rattle.domain_zonefile.proofs.ReadingText.{next_reads}
 use Rattle.domain_zonefile.proofs.Same.{only_signature, there_of}
 use Rattle.domain_zonefile.proofs.Saying.{lines_of, loaded, relative_loaded}
 use Rattle.domain_zonefile.proofs.Spelling.{fields_plain}

@@ -17,10 +17,10 @@ use Rattle.domain_zonefile.specs.Lines.{Written, ReadsRecords, record_said}
 use Rattle.domain_zonefile.specs.Meanings.{Setting}
 use Rattle.domain_zonefile.specs.Reading.{EntrySaid, line_after}
 use Rattle.domain_zonefile.specs.Reading.EntrySaid.{blank, directive_line}
-use Rattle.domain_zonefile.proofs.Loading.{entries_loaded}
+use Rattle.domain_zonefile.proofs.LoadingText.{entries_loaded}
 use Rattle.domain_zonefile.proofs.Members.{all_from, first_in, later_in}
 use Rattle.domain_zonefile.proofs.Names.{name_there}
-use Rattle.domain_zonefile.proofs.Reading.{IsSayable, are_records, entries_of, is_record, next_of, records_back}
+use Rattle.domain_zonefile.proofs.ReadingText.{IsSayable, are_records, entries_of, is_record, next_of, records_back}
 use Rattle.domain_zonefile.proofs.Same.{there_of}
 use Rattle.domain_zonefile.proofs.Wording.{owner_at}
 use Rattle.domain_zonefile.proofs.Worded.{entries_worded, IsSaidAt, reads_origin, written_of}

@@ -35,7 +35,7 @@ use Rattle.domain_zonefile.specs.Reading.{IsFrontData, is_indented, line_after, 
 use Rattle.domain_zonefile.specs.Reading.EntrySaid.{directive_line}
 use Rattle.domain_zonefile.proofs.Cutting.{line_cut}
 use Rattle.domain_zonefile.proofs.Named.{class_back, class_word, ttl_back, type_back}
-use Rattle.domain_zonefile.proofs.Reading.{next_of, record_no_blank}
+use Rattle.domain_zonefile.proofs.ReadingText.{next_of, record_no_blank}
 use Rattle.domain_zonefile.proofs.Wording.{BeginsWell, IsOwnerAt}
 use Rattle.domain_zonefile.specs.Relative.{origin_text, Worded, worded_line, worded_lines, worded_words}
 

@@ -4,7 +4,7 @@ use Rattle.domain_zone.specs.declared.zone.Rrset.{Rrset}
 use Rattle.domain_zone.specs.declared.zone.ZoneRecords.{ZoneRecords}
 use Rattle.domain_zone.specs.Zone.{IsZone, IsFirstCut, HasNoCut, IsAt, NS}
 use Rattle.domain_zone.specs.Views.{rrset, zone_of}
-use Rattle.domain_zone.proofs.Cuts.{BestSoFar, no_cut, next_best, no_first, is_first}
+use Rattle.domain_zone.proofs.CutSearch.{BestSoFar, no_cut, next_best, no_first, is_first}
 use Rattle.domain_zone.proofs.cut.first_cut.Goals as goal
 
 pub loop-set-preserved-then-not-is_cut_over : goal.loop-set-preserved-then-not-is_cut_over

@@ -1,4 +1,4 @@
-use Rattle.domain_zone.proofs.Cuts.{BestSoFar}
+use Rattle.domain_zone.proofs.CutSearch.{BestSoFar}
 use Rattle.domain_zone.proofs.cut.first_cut.Given as goal
 
 -- the highest cut so far

@@ -24,7 +24,7 @@ use Rattle.domain_zonefile.specs.Reading.{EntrySaid, IsEntryFault}
 use Rattle.domain_zonefile.specs.Reading.EntrySaid.{blank, directive_line, resource_record}
 use Rattle.domain_zonefile.specs.Readers.{ReadsNext}
 use Rattle.domain_zonefile.proofs.Alike.{zone_alike}
-use Rattle.domain_zonefile.proofs.Reading.{next_reads, none_left, parted, reads_blank}
+use Rattle.domain_zonefile.proofs.ReadingText.{next_reads, none_left, parted, reads_blank}
 use Rattle.domain_zonefile.proofs.Same.{alike_from, alike_to, same_records}
 use Rattle.domain_zonefile.specs.ZoneLaws.{IsLoadedAs, IsMemory, IsReadableZone, IsSameZone}
 use Rattle.domain_zonefile.specs.Texts.{zone_records}
