@@ -1,0 +1,3 @@
+pub mod Denial
+pub mod DenialViews
+pub mod Beside
