@@ -18,6 +18,8 @@ mod engines;
 #[cfg(test)]
 mod equal_data;
 #[cfg(test)]
+mod hashed_denials;
+#[cfg(test)]
 mod memory;
 #[cfg(test)]
 mod messages;
