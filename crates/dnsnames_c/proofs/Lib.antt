@@ -6,3 +6,4 @@ pub mod Given
 pub mod NameOctets
 pub mod LastLabels
 pub mod PlainText
+pub mod Pushed

@@ -1,19 +1,19 @@
 //! Messages that are built in the caller's buffer (RFC 1035, 4.1).
-ghost use Rattle.std.specs.Prelude.{◌≡◌, ◌≤◌, length};
+ghost use Rattle.std.specs.Prelude.{◌≡◌};
 ghost use Rattle.domain_label.specs.Wire.{IsAbsoluteWire};
 ghost use Rattle.domain_buffer.specs.Builders.{headed_by_wire, headed_by, IsUsable};
-ghost use Rattle.domain_buffer.specs.Data.{found_fields, IsNamed};
-ghost use Rattle.dnsnames_c.specs.Builders.{section_of, opt_with, flagged_opt, BeginsMessage, AsksFor, GivesData, GivesNamed};
+ghost use Rattle.dnsnames_c.specs.Builders.{section_of, opt_with, flagged_opt, BeginsMessage, AsksFor, GivesData};
 ghost use Rattle.dnsnames_c.specs.Builders.{GivesInSection, GivesOpt, GivesRootRecord, Cuts, Finishes};
 ghost use Rattle.dnsnames_c.specs.Status.{push_number};
 
 use domain_buffer::builder::{
-    BLANK, Builder, Head, count_question, enter, header_octets_of, is_usable, type_and_class_octets,
+    BLANK, Builder, Head, count_question, counts, enter, header_octets_of, is_usable,
+    type_and_class_octets,
 };
-use domain_buffer::data::{NamedData, named_data};
-use domain_buffer::push::{PushFault, push_named, push_record};
+use domain_buffer::push::{PushFault, push_any, push_record};
 use domain_buffer::put::put_at;
 use domain_message::Section;
+use domain_message_builder::counting::has_records;
 use domain_name::Name;
 
 /// Begins a message in the buffer, with an identifier and flags, and nothing in it. It has as many octets as the
@@ -73,7 +73,7 @@ pub extern "C" fn dnsnames_builder_question(
     let Ok(_) = Name::from_slice(name) else {
         return 9;
     };
-    if builder.answers > 0 || builder.authority > 0 || builder.additional > 0 {
+    if has_records(counts(builder)) {
         return 24;
     }
     if builder.questions == 65_535 {
@@ -130,29 +130,6 @@ fn push_data(
     }
 }
 
-/// Pushes a record with data of names, or nothing.
-fn push_names(
-    octets: &mut [u8],
-    builder: &mut Builder,
-    section: Section,
-    owner: &[u8],
-    head: Head,
-    fields: NamedData<'_>,
-) -> u32
-    requires usable { IsUsable octets.old builder.old }
-    requires owner { IsAbsoluteWire owner.now }
-    requires named { IsNamed head.rtype (found_fields fields) }
-    requires before { length fields.before.now ≤ 6 }
-    requires after { length fields.after.now ≤ 20 }
-    ensures { GivesNamed section owner.now (headed_by owner.now head) (found_fields fields.entry)
-        result octets.old builder.old octets.new builder.new }
-{
-    match push_named(octets, builder, section, owner, head, fields) {
-        Ok(()) => 0,
-        Err(fault) => number_of_push(fault),
-    }
-}
-
 /// Pushes a record into a section, or nothing: 1 is the answer section, 2 authority, 3 additional. The owner's name is
 /// written as `dnsnames_plan` says. So are the names in the data, over the message up to and including the owner's
 /// name. This holds where the type is one of RFC 1035 (3.3) that has names, and the data are exactly its fields, with
@@ -186,9 +163,9 @@ pub extern "C" fn dnsnames_builder_record(
         return 9;
     };
     let head = Head { rtype, class, ttl };
-    match named_data(rtype, data) {
-        Some(fields) => push_names(octets, builder, section, owner, head, fields),
-        None => push_data(octets, builder, section, owner, head, data),
+    match push_any(octets, builder, section, owner, head, data) {
+        Ok(()) => 0,
+        Err(fault) => number_of_push(fault),
     }
 }
 

@@ -9,3 +9,4 @@ pub mod Standing
 pub mod Contiguous
 pub mod Tabling
 pub mod Rrsets
+pub mod Counting

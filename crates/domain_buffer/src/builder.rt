@@ -3,13 +3,14 @@ ghost use Rattle.std.specs.Prelude.{◌≡◌, ◌<◌, ◌≤◌, ◌+◌, ◌^
 ghost use Rattle.std.specs.Int.{w16, to_be_bytes};
 ghost use Rattle.domain_label.specs.Wire.{IsAbsoluteWire};
 ghost use Rattle.domain_message.specs.Composing.{type_and_class, before_length};
-ghost use Rattle.domain_message_builder.specs.Pushes.{later_count, section_count};
+ghost use Rattle.domain_message_builder.specs.Pushes.{section_count};
 ghost use Rattle.domain_message_builder.specs.SectionStarts.{IsInOrder};
 ghost use Rattle.domain_buffer.specs.Puts.{PutsAt};
 ghost use Rattle.domain_buffer.specs.Builders.{all_header_octets, starts_of, counts_of, questioned, with_one_more, IsUsable, EntersIfRoom};
 
 use crate::plan::{add_offsets, is_table, spell};
 use crate::put::put_at;
+use domain_header::HeaderCounts;
 use domain_message::Section;
 
 /// A message that is built. Its fields are how many octets it has at most, how many it has, and the identifier and the
@@ -34,6 +35,19 @@ pub struct Builder {
     pub additional_start: usize,
     pub table_len: usize,
     pub table: [u16; 128],
+}
+
+/// How many entries each section has.
+#[tactic(auto, using(crate::proofs::Counting::same_counts))]
+pub fn counts(builder: &Builder) -> HeaderCounts
+    ensures { result ≡ counts_of builder.now }
+{
+    let mut counts = HeaderCounts::new();
+    counts.set_qdcount(builder.questions);
+    counts.set_ancount(builder.answers);
+    counts.set_nscount(builder.authority);
+    counts.set_arcount(builder.additional);
+    counts
 }
 
 /// What stands for the header until the message is finished.
@@ -130,28 +144,6 @@ pub fn type_and_class_octets(rtype: u16, class: u16) -> [u8; 4]
     let [a, b] = rtype.to_be_bytes();
     let [c, d] = class.to_be_bytes();
     [a, b, c, d]
-}
-
-/// Whether a section after this one has a record.
-pub fn has_later(section: Section, builder: &Builder) -> bool
-    ensures { IsTrue result ↔ (0 < later_count section (counts_of builder.now)) }
-{
-    match section {
-        Section::Answer => builder.authority > 0 || builder.additional > 0,
-        Section::Authority => builder.additional > 0,
-        Section::Additional => false,
-    }
-}
-
-/// How many records a section has.
-pub fn count_of(section: Section, builder: &Builder) -> u16
-    ensures { result ≡ section_count section (counts_of builder.now) }
-{
-    match section {
-        Section::Answer => builder.answers,
-        Section::Authority => builder.authority,
-        Section::Additional => builder.additional,
-    }
 }
 
 /// Counts a record of a section that the message ends with: the sections after it begin behind it.

@@ -2,12 +2,11 @@
 ghost use Rattle.std.specs.Prelude.{◌≡◌, ◌≤◌, ◌↔◌, ◌≢◌, length, sum, IsTrue, IfOk, IfErr, OnOk, OnErr};
 ghost use Rattle.domain_label.specs.Wire.{IsAbsoluteWire};
 ghost use Rattle.domain_buffer.specs.Builders.{headed_by, IsUsable};
-ghost use Rattle.domain_buffer.specs.Rrsets.{pieces, marked_cut, PushesAny, RefusesAny, PushesEach, PushesSet, RefusesSet, PushesRequired, PushesExtra, SameMessage};
+ghost use Rattle.domain_buffer.specs.Rrsets.{pieces, marked_cut, PushesEach, PushesSet, RefusesSet, PushesRequired, PushesExtra, SameMessage};
 ghost use Rattle.domain_buffer.specs.declared.push.PushFault.TheVariants.{NoRoom};
 
 use crate::builder::{Builder, Head};
-use crate::data::named_data;
-use crate::push::{PushFault, push_named, push_record};
+use crate::push::{PushFault, push_any};
 use domain_message::Section;
 
 /// Whether these lengths make up `len`.
@@ -22,29 +21,6 @@ pub fn are_lengths(lens: &[u16], len: usize) -> bool
         left -= usize::from(*size);
     }
     left == 0
-}
-
-/// Pushes a record, or nothing. Names in its data are compressed where the standards allow it, as by `push_named`.
-fn push_any(
-    octets: &mut [u8],
-    builder: &mut Builder,
-    section: Section,
-    owner: &[u8],
-    head: Head,
-    data: &[u8],
-) -> Result<(), PushFault>
-    requires usable { IsUsable octets.old builder.old }
-    requires owner { IsAbsoluteWire owner.now }
-    ensures ok { OnOk result (PushesAny section owner.now (headed_by owner.now head) data.now
-        octets.old builder.old octets.new builder.new) }
-    ensures err { IfErr result (RefusesAny section owner.now (headed_by owner.now head) data.now
-        octets.old builder.old) }
-    ensures unchanged { OnErr result ((octets.new ≡ octets.old) × (builder.new ≡ builder.old)) }
-{
-    match named_data(head.rtype, data) {
-        Some(fields) => push_named(octets, builder, section, owner, head, fields),
-        None => push_record(octets, builder, section, owner, head, data),
-    }
 }
 
 /// Pushes records with these data, which have these lengths, up to the first that is refused. Those before it stay.

@@ -51,14 +51,14 @@ pub(crate) fn counts_fit(counts: HeaderCounts)
 }
 
 /// Whether there is a record.
-pub(crate) fn has_records(counts: HeaderCounts) -> bool
+pub fn has_records(counts: HeaderCounts) -> bool
     ensures { IsTrue result ↔ (0 < record_count counts) }
 {
     counts.ancount() > 0 || counts.nscount() > 0 || counts.arcount() > 0
 }
 
 /// Whether a section after this one has a record.
-pub(crate) fn has_later(section: Section, counts: HeaderCounts) -> bool
+pub fn has_later(section: Section, counts: HeaderCounts) -> bool
     ensures { IsTrue result ↔ (0 < later_count section counts) }
 {
     match section {
@@ -69,7 +69,7 @@ pub(crate) fn has_later(section: Section, counts: HeaderCounts) -> bool
 }
 
 /// How many records a section has.
-pub(crate) fn count_of(section: Section, counts: HeaderCounts) -> u16
+pub fn count_of(section: Section, counts: HeaderCounts) -> u16
     ensures { result ≡ section_count section counts }
 {
     match section {

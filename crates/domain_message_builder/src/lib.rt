@@ -4,7 +4,7 @@
 mod answering;
 mod appending;
 pub mod builder;
-mod counting;
+pub mod counting;
 pub mod error;
 pub mod laws;
 mod mark;

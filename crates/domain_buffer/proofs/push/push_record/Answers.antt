@@ -1,7 +1,8 @@
-use Rattle.std.proofs.Common.{◌≡◌, ◌≤◌, ◌++◌, ◌∙◌, length, refl, ap, subst, arith, append_assoc, length-append}
+use Rattle.std.proofs.Common.{◌≡◌, ◌<◌, ◌≤◌, ◌++◌, ◌∙◌, length, refl, sym, ap, subst, arith, append_assoc, length-append}
 use Rattle.std.proofs.lemmas.Bool.{false≢true}
 use Rattle.std.specs.Int.{w16, to_be_bytes}
 use Rattle.domain_message.specs.Composing.{before_length}
+use Rattle.domain_message_builder.specs.Pushes.{later_count}
 use Rattle.domain_buffer.specs.Builders.{headed_by_wire, octets_after_owner, Enters}
 use Rattle.domain_buffer.proofs.Building.{record_pushed}
 use Rattle.domain_buffer.proofs.push.push_record.Goals as goal
@@ -23,4 +24,4 @@ returns-clause-ok c =
     let len : c.min-len.result ≡ length rdata = grind (arith, c.min-len.ensures, few) in
     let rest : made ++ rdata ≡ octets_after_owner head rdata = ap (λ x. x ++ rdata) (fits.octets ∙ ap (λ n. front ++ to_be_bytes w16 n) len) ∙ append_assoc front (to_be_bytes w16 (length rdata)) rdata in
     let entered = subst (λ r. Enters o b owner r o' b') rest e in
-    record_pushed c.args.section o b owner head rdata o' b' c.count_record.new.builder fits.rtype fits.class fits.ttl refl c.requires.usable c.requires.owner (λ h. false≢true (c.if-has_later.ensures.1 h)) entered c.if-not-enter.ensures.1 c.count_record.ensures
+    record_pushed c.args.section o b owner head rdata o' b' c.count_record.new.builder fits.rtype fits.class fits.ttl refl c.requires.usable c.requires.owner (λ h. false≢true (c.if-has_later.ensures.1 (subst (λ n. 0 < later_count c.args.section n) (sym c.counts-counted.ensures) h))) entered c.if-not-enter.ensures.1 c.count_record.ensures
