@@ -10,6 +10,7 @@ use domain_buffer::builder::{
     BLANK, Builder, Head, count_question, counts, enter, header_octets_of, is_usable,
     type_and_class_octets,
 };
+use domain_buffer::mark::cut;
 use domain_buffer::push::{PushFault, push_any, push_record};
 use domain_buffer::put::put_at;
 use domain_message::Section;
@@ -237,15 +238,7 @@ pub extern "C" fn dnsnames_builder_truncate(octets: &[u8], builder: &mut Builder
     if !is_usable(octets, builder) {
         return 23;
     }
-    builder.len = builder.answer_start;
-    builder.answers = 0;
-    builder.authority = 0;
-    builder.additional = 0;
-    builder.authority_start = builder.len;
-    builder.additional_start = builder.len;
-    if builder.flags / 512 % 2 == 0 {
-        builder.flags += 512;
-    }
+    cut(builder);
     0
 }
 

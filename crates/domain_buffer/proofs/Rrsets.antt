@@ -4,6 +4,7 @@ use Rattle.std.proofs.lemmas.Bool.{cond_both, eqb-true, eqb-false}
 use Rattle.domain_header.specs.Bits.{SetsBits}
 use Rattle.domain_message.specs.declared.section.Section.{Section}
 use Rattle.domain_message_builder.specs.Contents.{RecordHead}
+use Rattle.domain_message_builder.specs.Cuts.{Truncates}
 use Rattle.domain_message_builder.specs.Ends.{MarksCut}
 use Rattle.domain_message_builder.specs.Pushes.{PushesRecord}
 use Rattle.domain_message_builder.specs.Rrsets.{InTurn, FirstRefused}
@@ -12,11 +13,11 @@ use Rattle.domain_message_builder.proofs.Sets.{Progress, progress_all, holds_set
 use Rattle.domain_buffer.specs.Puts.{PutsAt}
 use Rattle.domain_buffer.specs.Builders.{builder_state, header_of, octets_after_owner, IsUsable, Exactly}
 use Rattle.domain_buffer.specs.Named.{written_data, SameNames}
-use Rattle.domain_buffer.specs.Rrsets.{Built, built, pieces, PushesAny, PushesOne, RefusesOne, PushesEach, PushesSet, RefusesSet, SameData, SameMessage, tc_set, marked_cut, SetsTc, back_at, IsMark, IsBackAt}
+use Rattle.domain_buffer.specs.Rrsets.{Built, built, pieces, PushesAny, PushesOne, RefusesOne, PushesEach, PushesSet, RefusesSet, SameData, SameMessage, tc_set, marked_cut, cut_to_questions, SetsTc, back_at, IsMark, IsBackAt}
 use Rattle.domain_buffer.specs.declared.builder.Builder.{Builder}
 use Rattle.domain_buffer.specs.declared.push.PushFault.{PushFault}
 use Rattle.domain_buffer.proofs.Puts.{puts_first, puts_size, puts_rest}
-use Rattle.domain_buffer.proofs.Building.{tc_added, tc_kept}
+use Rattle.domain_buffer.proofs.Building.{cuts, tc_added, tc_kept}
 
 -- ---- what a push leaves of what was there before
 
@@ -182,6 +183,11 @@ tc_bits f =
 
 tc_low : (f : ℕ) → tc_set f % 256 ≡ f % 256
 tc_low f = cond_both (nat_eq (f / 512 % 2) 0) (f + 512) f (λ x. x % 256 ≡ f % 256) (λ _. omega arith) (λ _. refl)
+
+-- The records were taken away, and TC was set.
+pub cut_usable : (o : List ℕ) (b x : Builder) → IsUsable o b → x ≡ cut_to_questions b → Truncates true (builder_state o b) (builder_state o x) × IsUsable o x
+cut_usable o b x u is =
+    subst (λ y. Truncates true (builder_state o b) (builder_state o y) × IsUsable o y) (sym is) (cuts o b (tc_set b.flags) u (tc_bits b.flags) (tc_low b.flags))
 
 marks_cut : (o : List ℕ) (b : Builder) (o' : List ℕ) → SameMessage o b o' → MarksCut true (builder_state o b) (builder_state o' (marked_cut b))
 marks_cut o b o' same = record {

@@ -2,7 +2,7 @@
 -- beside it.
 use Rattle.std.specs.Prelude.{◌≡◌, ℕ, ◌+◌, ◌/◌, ◌%◌, ◌≤◌, ◌<◌, Bool, true, List, ◌++◌, length, take, MatchBool}
 use Rattle.std.specs.Int.{w16, to_be_bytes}
-use Rattle.domain_header.specs.Headers.{header_octets, counts_octets}
+use Rattle.domain_header.specs.Headers.{header_octets, counts_octets, question_count, answer_count, authority_count, additional_count}
 use Rattle.domain_header.specs.declared.counts.HeaderCounts.{HeaderCounts}
 use Rattle.domain_header.specs.declared.flags.Header.{Header}
 use Rattle.domain_label.specs.Wire.{labels_in}
@@ -12,7 +12,7 @@ use Rattle.domain_message.specs.declared.section.Section.{Section}
 use Rattle.domain_message.specs.declared.section.Section.TheVariants.{Answer, Authority, Additional}
 use Rattle.domain_message_builder.specs.Contents.{blank_header, RecordHead}
 use Rattle.domain_message_builder.specs.Pushes.{PushesRecord}
-use Rattle.domain_message_builder.specs.SectionStarts.{IsInOrder}
+use Rattle.domain_message_builder.specs.SectionStarts.{IsInOrder, start_of}
 use Rattle.domain_message_builder.specs.State.{State}
 use Rattle.domain_message_builder.specs.declared.section_starts.SectionStarts.{SectionStarts}
 use Rattle.domain_compress.specs.Compressing.{Compresses}
@@ -87,6 +87,19 @@ abbrev pub EntersIfRoom : (told : Bool) → List ℕ → Builder → (name head 
 EntersIfRoom told o b name head rdata o' b' =
     MatchBool told (Enters o b name (head ++ rdata) o' b' × (b' ≡ entered b b'))
     (TooBig o b name (length head + length rdata) × (o' ≡ o) × (b' ≡ b))
+
+-- with these counts, and with sections that begin at these offsets
+abbrev pub with_sections : HeaderCounts → SectionStarts → Builder → Builder
+with_sections counts starts b =
+    record b {
+      questions = question_count counts;
+      answers = answer_count counts;
+      authority = authority_count counts;
+      additional = additional_count counts;
+      answer_start = start_of Answer starts;
+      authority_start = start_of Authority starts;
+      additional_start = start_of Additional starts;
+    }
 
 -- a question more, which ends where the message does
 abbrev pub questioned : Builder → Builder

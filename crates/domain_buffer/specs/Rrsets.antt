@@ -100,6 +100,19 @@ tc_set flags = if nat_eq (flags / 512 % 2) 0 then flags + 512 else flags
 abbrev pub marked_cut : Builder → Builder
 marked_cut b = record b { flags = tc_set b.flags }
 
+-- the builder without records, and with TC set
+abbrev pub cut_to_questions : Builder → Builder
+cut_to_questions b =
+    marked_cut
+    (record b {
+      len = b.answer_start;
+      answers = 0;
+      authority = 0;
+      additional = 0;
+      authority_start = b.answer_start;
+      additional_start = b.answer_start;
+    })
+
 -- Only TC was set.
 pub record SetsTc (o : List ℕ) (b : Builder) (o' : List ℕ) (b' : Builder) : Type 0 where
   pub octets : SameMessage o b o'

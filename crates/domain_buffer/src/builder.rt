@@ -6,12 +6,14 @@ ghost use Rattle.domain_message.specs.Composing.{type_and_class, before_length};
 ghost use Rattle.domain_message_builder.specs.Pushes.{section_count};
 ghost use Rattle.domain_message_builder.specs.SectionStarts.{IsInOrder};
 ghost use Rattle.domain_buffer.specs.Puts.{PutsAt};
-ghost use Rattle.domain_buffer.specs.Builders.{all_header_octets, starts_of, counts_of, questioned, with_one_more, IsUsable, EntersIfRoom};
+ghost use Rattle.domain_buffer.specs.Builders.{all_header_octets, starts_of, counts_of, with_sections, questioned, with_one_more, IsUsable, EntersIfRoom};
 
 use crate::plan::{add_offsets, is_table, spell};
 use crate::put::put_at;
 use domain_header::HeaderCounts;
 use domain_message::Section;
+use domain_message_builder::counting::{with_question, with_record};
+use domain_message_builder::section_starts::SectionStarts;
 
 /// A message that is built. Its fields are how many octets it has at most, how many it has, and the identifier and the
 /// flags that it gets. After these come how many entries each section has, where the sections of records start, and
@@ -48,6 +50,18 @@ pub fn counts(builder: &Builder) -> HeaderCounts
     counts.set_nscount(builder.authority);
     counts.set_arcount(builder.additional);
     counts
+}
+
+/// Where the sections of records begin.
+#[tactic(auto, using(crate::proofs::Counting::same_starts))]
+pub(crate) fn starts(builder: &Builder) -> SectionStarts
+    ensures { result ≡ starts_of builder.now }
+{
+    SectionStarts::new(
+        builder.answer_start,
+        builder.authority_start,
+        builder.additional_start,
+    )
 }
 
 /// What stands for the header until the message is finished.
@@ -126,15 +140,28 @@ pub fn enter(
     true
 }
 
+/// Puts these counts, and these offsets at which sections begin, in the place of the builder's.
+#[tactic(auto, using(crate::proofs::Counting::sections_set))]
+pub(crate) fn set_sections(builder: &mut Builder, counts: HeaderCounts, starts: SectionStarts)
+    ensures { builder.new ≡ with_sections counts starts builder.old }
+{
+    builder.questions = counts.qdcount();
+    builder.answers = counts.ancount();
+    builder.authority = counts.nscount();
+    builder.additional = counts.arcount();
+    builder.answer_start = starts.of(Section::Answer);
+    builder.authority_start = starts.of(Section::Authority);
+    builder.additional_start = starts.of(Section::Additional);
+}
+
 /// Counts a question that the message ends with: all sections begin behind it.
 pub fn count_question(builder: &mut Builder)
     requires { builder.old.questions < 65535 }
     ensures { builder.new ≡ questioned builder.old }
 {
-    builder.questions += 1;
-    builder.answer_start = builder.len;
-    builder.authority_start = builder.len;
-    builder.additional_start = builder.len;
+    let counted = with_question(counts(builder));
+    let begun = SectionStarts::at(builder.len);
+    set_sections(builder, counted, begun);
 }
 
 /// The octets of a type and a class (RFC 1035, 4.1.2).
@@ -151,18 +178,9 @@ pub fn count_record(section: Section, builder: &mut Builder)
     requires { section_count section (counts_of builder.old) < 65535 }
     ensures { builder.new ≡ with_one_more section builder.old }
 {
-    match section {
-        Section::Answer => {
-            builder.answers += 1;
-            builder.authority_start = builder.len;
-            builder.additional_start = builder.len;
-        }
-        Section::Authority => {
-            builder.authority += 1;
-            builder.additional_start = builder.len;
-        }
-        Section::Additional => builder.additional += 1,
-    }
+    let counted = with_record(section, counts(builder));
+    let begun = starts(builder).after(section, builder.len);
+    set_sections(builder, counted, begun);
 }
 
 /// What a record says between its owner's name and its data, but how many octets these have.

@@ -96,7 +96,7 @@ fn is_for_room(fault: PushFault) -> bool
 }
 
 /// Sets the bit TC.
-fn set_tc(builder: &mut Builder)
+pub(crate) fn set_tc(builder: &mut Builder)
     ensures { builder.new ≡ marked_cut builder.old }
 {
     if builder.flags / 512 % 2 == 0 {

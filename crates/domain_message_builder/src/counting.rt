@@ -80,7 +80,7 @@ pub fn count_of(section: Section, counts: HeaderCounts) -> u16
 }
 
 /// Counts one question more.
-pub(crate) fn with_question(counts: HeaderCounts) -> HeaderCounts
+pub fn with_question(counts: HeaderCounts) -> HeaderCounts
     requires { question_count counts < 65535 }
     ensures { CountsQuestion counts result }
 {
@@ -91,7 +91,7 @@ pub(crate) fn with_question(counts: HeaderCounts) -> HeaderCounts
 }
 
 /// Counts one record more in a section.
-pub(crate) fn with_record(section: Section, counts: HeaderCounts) -> HeaderCounts
+pub fn with_record(section: Section, counts: HeaderCounts) -> HeaderCounts
     requires { section_count section counts < 65535 }
     ensures { CountsRecord section counts result }
 {
@@ -106,7 +106,7 @@ pub(crate) fn with_record(section: Section, counts: HeaderCounts) -> HeaderCount
 }
 
 /// Counts no records of a section and of those after it.
-pub(crate) fn without_records(section: Section, counts: HeaderCounts) -> HeaderCounts
+pub fn without_records(section: Section, counts: HeaderCounts) -> HeaderCounts
     ensures { CountsNone section counts result }
 {
     let mut counts = counts;

@@ -1,5 +1,6 @@
 //! Where the sections of records begin.
 ghost use Rattle.std.specs.Prelude.{◌≡◌};
+ghost use Rattle.domain_message.specs.declared.section.Section.TheVariants.{Answer, Authority, Additional};
 ghost use Rattle.domain_message_builder.specs.SectionStarts.{all_at, starts_after, start_of};
 
 use domain_message::Section;
@@ -13,8 +14,21 @@ pub struct SectionStarts {
 }
 
 impl SectionStarts {
+    /// The sections begin at these offsets.
+    pub fn new(answer: usize, authority: usize, additional: usize) -> SectionStarts
+        ensures answer { start_of Answer result ≡ answer }
+        ensures authority { start_of Authority result ≡ authority }
+        ensures additional { start_of Additional result ≡ additional }
+    {
+        SectionStarts {
+            answer,
+            authority,
+            additional,
+        }
+    }
+
     /// Each section begins here: no record is before.
-    pub(crate) fn at(offset: usize) -> SectionStarts
+    pub fn at(offset: usize) -> SectionStarts
         ensures { result ≡ all_at offset }
     {
         SectionStarts {
@@ -25,7 +39,7 @@ impl SectionStarts {
     }
 
     /// Where a section begins.
-    pub(crate) fn of(self, section: Section) -> usize
+    pub fn of(self, section: Section) -> usize
         ensures { result ≡ start_of section self }
     {
         match section {
@@ -36,7 +50,7 @@ impl SectionStarts {
     }
 
     /// Those after a record of this section was pushed, which ends at this offset.
-    pub(crate) fn after(self, section: Section, end: usize) -> SectionStarts
+    pub fn after(self, section: Section, end: usize) -> SectionStarts
         ensures { result ≡ starts_after section end self }
     {
         match section {
