@@ -3,6 +3,11 @@ pub mod Outcomes
 pub mod Fronts
 pub mod Owning
 pub mod Cutting
+pub mod Endings
+pub mod Prefixes
+pub mod Pieces
+pub mod Offsets
+pub mod Within
 pub mod Named
 pub mod Lines
 mod Entering

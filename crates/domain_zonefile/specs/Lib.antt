@@ -1,5 +1,6 @@
 pub mod Outcome
 pub mod Entries
+pub mod Endings
 pub mod Mnemonics
 pub mod Heads
 pub mod Directives
@@ -7,6 +8,8 @@ pub mod Meanings
 pub mod Reading
 pub mod Lines
 pub mod Readers
+pub mod Places
+pub mod Pieces
 pub mod Takings
 pub mod Loads
 pub mod Texts

@@ -1,5 +1,5 @@
 -- Entries, with what earlier ones left (RFC 1035, 5.1; RFC 2308, 4).
-use Rattle.std.specs.Prelude.{◌≡◌, ◌⊎◌, ℕ, ◌+◌, Bool, false, List, [], ◌∷◌, Some, Ok, Err, ◌==◌, ◌||◌, drop}
+use Rattle.std.specs.Prelude.{◌≡◌, ◌⊎◌, ℕ, ◌+◌, Bool, false, List, [], ◌∷◌, ◌++◌, Some, Ok, Err, ◌==◌, ◌||◌, drop}
 use Rattle.domain_descriptor.specs.Table.{known_fields}
 use Rattle.domain_label.specs.Wire.{IsAbsoluteWire}
 use Rattle.domain_rdata_text.specs.declared.error.Fault.{Fault}
@@ -123,6 +123,13 @@ pub record IsLaterFault (s : Setting) (text : List ℕ) (f : EntryFault) : Type 
 -- This is the fault of the first entry of a text.
 abbrev pub IsEntryFault : Setting → List ℕ → EntryFault → Type 0
 IsEntryFault s text f = (cut [] text ≡ Err f) ⊎ (IsWordFault s text f ⊎ IsLaterFault s text f)
+
+-- The first entry of a text is read alike from the text with more after it: what is left has more, too.
+abbrev pub IsReadAlike : Setting → List ℕ → List ℕ → Type 0
+IsReadAlike s text more =
+    ((said : EntrySaid) (rest : List ℕ) (new : Setting) → ReadsEntry s text said rest new
+    → ReadsEntry s (text ++ more) said (rest ++ more) new)
+    × ((f : EntryFault) → IsEntryFault s text f → IsEntryFault s (text ++ more) f)
 
 -- the offset of a fault in the data, if it is there
 abbrev pub inner_offset : EntryReason → ℕ

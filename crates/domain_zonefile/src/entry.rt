@@ -22,7 +22,7 @@ pub enum Mode {
 }
 
 /// Returns what the octet is in that follows the one at an offset.
-fn mode_after(mode: Mode, at: usize, octet: u8) -> Mode
+pub(crate) fn mode_after(mode: Mode, at: usize, octet: u8) -> Mode
     ensures { result ≡ after mode at octet }
 {
     match mode {
@@ -59,7 +59,7 @@ fn mode_after(mode: Mode, at: usize, octet: u8) -> Mode
 }
 
 /// Returns whether the octet ends an entry in which this many parentheses are open.
-fn ends_entry(mode: Mode, depth: usize, octet: u8) -> bool
+pub(crate) fn ends_entry(mode: Mode, depth: usize, octet: u8) -> bool
     ensures { result ≡ ends mode depth octet }
 {
     match mode {
@@ -70,7 +70,7 @@ fn ends_entry(mode: Mode, depth: usize, octet: u8) -> bool
 }
 
 /// Returns whether the octet opens a group of lines.
-fn opens_group(mode: Mode, octet: u8) -> bool
+pub(crate) fn opens_group(mode: Mode, octet: u8) -> bool
     ensures { result ≡ opens mode octet }
 {
     match mode {
@@ -80,7 +80,7 @@ fn opens_group(mode: Mode, octet: u8) -> bool
 }
 
 /// Returns whether the octet closes a group of lines.
-fn closes_group(mode: Mode, octet: u8) -> bool
+pub(crate) fn closes_group(mode: Mode, octet: u8) -> bool
     ensures { result ≡ closes mode octet }
 {
     match mode {

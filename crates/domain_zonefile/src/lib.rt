@@ -5,6 +5,7 @@
 pub mod context;
 mod data;
 pub mod directive;
+pub mod ending;
 pub mod entry;
 pub mod error;
 mod head;
@@ -14,6 +15,7 @@ pub mod loading;
 mod meaning;
 mod mnemonic;
 mod name;
+pub mod pieces;
 mod push;
 pub mod reader;
 pub mod reading;
@@ -25,11 +27,15 @@ pub mod zone_laws;
 
 pub use context::Context;
 pub use directive::Directive;
+pub use ending::entry_end;
 pub use entry::cut_entry;
 pub use error::{EntryError, EntryFault, EntryReason};
-pub use laws::{entry_law, lines_law, names_law, outcome_law, words_law, written_law};
+pub use laws::{
+    entry_law, lines_law, names_law, offset_law, outcome_law, prefix_law, words_law, written_law,
+};
 pub use load_error::LoadError;
 pub use loading::load;
+pub use pieces::{EntryPieces, PieceError};
 pub use reader::{ZoneReader, ZoneTextError};
 pub use reading::{Entry, EntryAndRest, Record, fault_place, read_entry};
 pub use record::{Front, append_name, append_record};

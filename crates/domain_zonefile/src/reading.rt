@@ -163,7 +163,7 @@ pub fn read_entry<'t>(
 }
 
 /// Returns the offset of a fault in its entry's data, if it is in the data.
-fn offset_in_data(reason: EntryReason) -> usize
+pub(crate) fn offset_in_data(reason: EntryReason) -> usize
     ensures { result ≡ inner_offset reason }
 {
     match reason {
@@ -173,7 +173,7 @@ fn offset_in_data(reason: EntryReason) -> usize
 }
 
 /// Returns the sum of three offsets, or `len` if that is less.
-fn sum_of_offsets(len: usize, begin: usize, at: usize, more: usize) -> usize
+pub(crate) fn sum_of_offsets(len: usize, begin: usize, at: usize, more: usize) -> usize
     requires { begin ≤ len }
     ensures { result ≡ min (begin + at + more) len }
 {
