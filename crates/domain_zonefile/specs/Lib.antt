@@ -10,6 +10,7 @@ pub mod Lines
 pub mod Readers
 pub mod Places
 pub mod Pieces
+pub mod Streams
 pub mod Takings
 pub mod Loads
 pub mod Texts

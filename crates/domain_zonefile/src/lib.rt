@@ -21,6 +21,7 @@ pub mod reader;
 pub mod reading;
 pub mod record;
 pub mod relative;
+pub mod stream;
 mod taking;
 pub mod writing;
 pub mod zone_laws;
@@ -40,10 +41,13 @@ pub use reader::{ZoneReader, ZoneTextError};
 pub use reading::{Entry, EntryAndRest, Record, fault_place, read_entry};
 pub use record::{Front, append_name, append_record};
 pub use relative::{append_relative_name, append_relative_record, write_relative_zone};
+pub use stream::{EntryReader, StreamTextError};
 pub use writing::write_zone;
 pub use zone_laws::{
     loaded_zone_law, relative_zone_law, reloaded_relative_law, reloaded_zone_law, written_zone_law,
 };
 
+#[cfg(test)]
+mod piece_tests;
 #[cfg(test)]
 mod tests;
