@@ -5,9 +5,11 @@ pub mod Owning
 pub mod Cutting
 pub mod Endings
 pub mod Prefixes
-pub mod Pieces
+pub mod Holding
 pub mod Offsets
 pub mod Within
+pub mod Taken
+pub mod Streaming
 pub mod Named
 pub mod Lines
 mod Entering

@@ -4,7 +4,7 @@ use Rattle.domain_rdata_text.specs.declared.place.Place.{Place}
 use Rattle.domain_zonefile.specs.declared.pieces.EntryPieces.{EntryPieces}
 use Rattle.domain_zonefile.specs.declared.pieces.PieceError.{PieceError}
 use Rattle.domain_zonefile.specs.declared.pieces.PieceError.TheVariants as piece
-use Rattle.domain_zonefile.specs.Endings.{entry_len, HasEnd}
+use Rattle.domain_zonefile.specs.Endings.{after_entry, entry_len, HasEnd}
 use Rattle.domain_zonefile.specs.Meanings.{Setting, setting_of}
 use Rattle.domain_zonefile.specs.Places.{place_behind}
 use Rattle.domain_zonefile.specs.Reading.{EntrySaid, ReadsEntry}
@@ -59,6 +59,11 @@ GivesLast s [] None new t = (new ≡ []) × (t ≡ s)
 GivesLast s [] (Some said) new t = ⊥
 GivesLast s (c ∷ cs) None new t = ⊥
 GivesLast s (c ∷ cs) (Some said) new t = (new ≡ []) × ReadsEntry s (c ∷ cs) said [] t
+
+-- What is held is at most one entry, and within the limit.
+pub record HoldsOne (p : EntryPieces) : Type 0 where
+  pub one : after_entry (held_octets p) ≡ []
+  pub within : length (held_octets p) ≤ limit_after (most_octets p) (passed_octets p)
 
 -- Nothing of a reader is changed but how much memory it has.
 pub record IsUnchanged (old new : EntryPieces) : Type 0 where

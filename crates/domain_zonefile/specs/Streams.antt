@@ -1,13 +1,17 @@
 -- The entries of a stream, of which what is left to read may be known or not.
-use Rattle.std.specs.Prelude.{◌≡◌, ℕ, ◌+◌, ◌<◌, ◌≤◌, List, ◌++◌, length, slice_range, take, Option, Some, None, IfSome}
-use Rattle.std.specs.Io.KnownBytes.{prepend_known}
+use Rattle.std.specs.Prelude.{◌≡◌, ℕ, ◌<◌, ◌≤◌, Bool, true, false, List, ◌++◌, length, slice_range, Option, Some, IfSome}
+use Rattle.std.specs.Io.KnownBytes.{IsAtEnd, Keeps, prepend_known}
 use Rattle.std.specs.declared.io.traits.Read.{Ghosts as ReadMembers}
 use Rattle.domain_rdata_text.specs.declared.place.Place.{Place}
+use Rattle.domain_zonefile.specs.declared.pieces.PieceError.{PieceError}
+use Rattle.domain_zonefile.specs.declared.pieces.PieceError.TheVariants as pieces
+use Rattle.domain_zonefile.specs.declared.reader.ZoneTextError.{ZoneTextError}
+use Rattle.domain_zonefile.specs.declared.reader.ZoneTextError.TheVariants as texts
 use Rattle.domain_zonefile.specs.declared.stream.EntryReader.{EntryReader}
 use Rattle.domain_zonefile.specs.declared.stream.StreamTextError.{StreamTextError}
 use Rattle.domain_zonefile.specs.declared.stream.StreamTextError.TheVariants.{Refused, TooLong, Read, Memory}
 use Rattle.domain_zonefile.specs.declared.error.EntryReason.{EntryReason}
-use Rattle.domain_zonefile.specs.Endings.{entry_len}
+use Rattle.domain_zonefile.specs.Endings.{entry_len, HasEnd}
 use Rattle.domain_zonefile.specs.Meanings.{Setting}
 use Rattle.domain_zonefile.specs.Pieces.{held_octets, limit_after, most_octets, passed_octets, pieces_place, pieces_setting}
 use Rattle.domain_zonefile.specs.Places.{IsFaultFrom, place_behind}
@@ -33,6 +37,22 @@ stream_place r = pieces_place r.pieces
 -- the most octets that the next entry may have, with the end of its last line
 abbrev pub stream_limit : {R : Type 0} → EntryReader R → ℕ
 stream_limit r = limit_after (most_octets r.pieces) (passed_octets r.pieces)
+
+-- where the octets of the piece begin and end that no entry has had so far
+abbrev pub reader_begin : {R : Type 0} → EntryReader R → ℕ
+reader_begin r = r.begin
+
+abbrev pub reader_end : {R : Type 0} → EntryReader R → ℕ
+reader_end r = r.end
+
+-- the error of a stream whose text has this one, and of one of which a piece isn't taken for this reason
+abbrev pub text_error : ZoneTextError → StreamTextError
+text_error (texts.Refused at why) = Refused at why
+text_error texts.Memory = Memory
+
+abbrev pub piece_error : PieceError → StreamTextError
+piece_error (pieces.TooLong at) = TooLong at
+piece_error pieces.Memory = Memory
 
 -- A text is what is left of a stream, if that is known.
 abbrev pub IsLeft : Option (List ℕ) → List ℕ → Type 0
@@ -73,3 +93,24 @@ HasNoNext n s from given (Refused at why) = HasFault n s from given at why
 HasNoNext n s from given (TooLong at) = IsTooLong n given × (at ≡ from)
 HasNoNext n s from given (Read e) = Unit {0}
 HasNoNext n s from given Memory = Unit {0}
+
+-- A reader stays at its entry: what is left, where that is known, is the same, and so are the place and the context.
+pub record IsStill {R : Type 0} (g : ReadMembers R) (old new : EntryReader R) : Type 0 where
+  pub text : Keeps (text_left g old) (text_left g new)
+  pub setting : stream_setting new ≡ stream_setting old
+  pub place : stream_place new ≡ stream_place old
+  pub most : most_octets new.pieces ≡ most_octets old.pieces
+  pub passed : passed_octets new.pieces ≡ passed_octets old.pieces
+
+-- A piece was read, or none is left to read; what is held is the same.
+pub record ReadsPiece {R : Type 0} (g : ReadMembers R) (old new : EntryReader R) (some : Bool) : Type 0 where
+  pub still : IsStill g old new
+  pub held : held_octets new.pieces ≡ held_octets old.pieces
+  pub more : some ≡ true → new.begin < new.end
+  pub none : some ≡ false → IsAtEnd (g.remaining new.input) × (new.begin ≡ new.end)
+
+-- Octets of the piece were pushed: one or more, if the entry hasn't ended.
+pub record PushesPiece {R : Type 0} (g : ReadMembers R) (old new : EntryReader R) : Type 0 where
+  pub still : IsStill g old new
+  pub more : (HasEnd (held_octets old.pieces) → ⊥) → old.begin < old.end → length (held_octets old.pieces) < length (held_octets new.pieces)
+  pub within : length (held_octets new.pieces) ≤ most_octets new.pieces

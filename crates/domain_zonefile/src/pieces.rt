@@ -109,7 +109,7 @@ impl EntryPieces {
     ghost use Rattle.std.specs.Prelude.{ℕ, List, ⊥, ◌++◌, IfOk, IfErr, OnOk, OnErr, option_map};
     ghost use Rattle.domain_zonefile.specs.Endings.{HasEnd};
     ghost use Rattle.domain_zonefile.specs.Meanings.{setting_of};
-    ghost use Rattle.domain_zonefile.specs.Pieces.{GivesEntry, GivesLast, held_octets, IsUnchanged, limit_after, most_octets, passed_octets, Passes, PassesIfSome, PieceNotTaken, pieces_place, pieces_setting, TakesPiece};
+    ghost use Rattle.domain_zonefile.specs.Pieces.{GivesEntry, GivesLast, held_octets, HoldsOne, IsUnchanged, limit_after, most_octets, passed_octets, Passes, PassesIfSome, PieceNotTaken, pieces_place, pieces_setting, TakesPiece};
     ghost use Rattle.domain_zonefile.specs.Places.{at_start, IsTextFaultFrom};
     ghost use Rattle.domain_zonefile.specs.Reading.{entry_view, fault_offset, ReadsEntry};
 
@@ -169,6 +169,7 @@ impl EntryPieces {
             (held_octets self.old) piece.now n (held_octets self.new)) }
         ensures some { 0 < length piece.now → IfOk result
             (λ n. (HasEnd (held_octets self.old) → ⊥) → 0 < n) }
+        ensures within { length (held_octets self.new) ≤ most_octets self.new }
         ensures err { IfErr result (PieceNotTaken self.old piece.now) }
         ensures unchanged { OnErr result (held_octets self.new ≡ held_octets self.old) }
         ensures setting { pieces_setting self.new ≡ pieces_setting self.old }
@@ -188,6 +189,7 @@ impl EntryPieces {
     }
 
     /// Returns line and column of a fault of the entry that is held.
+    #[tactic(auto, using(std::proofs::lemmas::List::take_min))]
     fn place_of_fault(&self, fault: EntryFault) -> Place
         ensures { result ≡ place_behind (pieces_place self.now)
             (take (fault_offset fault) (held_octets self.now)) }
@@ -238,6 +240,8 @@ impl EntryPieces {
             (pieces_setting self.new)) }
         ensures err { IfErr result (λ e. (more : List ℕ) → IsTextFaultFrom (pieces_setting self.old)
             (pieces_place self.old) (held_octets self.old ++ more) e) }
+        ensures ended { OnErr result (HasEnd (held_octets self.old)) }
+        ensures holds { HoldsOne self.old }
         ensures passes { IfOk result (λ told. PassesIfSome told self.old self.new) }
         ensures unchanged { OnErr result (IsUnchanged self.old self.new) }
         ensures limit { most_octets self.new ≡ most_octets self.old }
@@ -264,6 +268,7 @@ impl EntryPieces {
             (pieces_setting self.new)) }
         ensures err { IfErr result (IsTextFaultFrom (pieces_setting self.old)
             (pieces_place self.old) (held_octets self.old)) }
+        ensures holds { HoldsOne self.old }
         ensures passes { IfOk result (λ told. PassesIfSome told self.old self.new) }
         ensures unchanged { OnErr result (IsUnchanged self.old self.new) }
         ensures limit { most_octets self.new ≡ most_octets self.old }

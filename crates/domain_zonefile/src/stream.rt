@@ -1,5 +1,6 @@
 //! The entries of a text that is read from a stream.
-ghost use Rattle.std.specs.Prelude.{◌≤◌, ◌<◌, ◌×◌, length};
+ghost use Rattle.std.specs.Prelude.{◌≡◌, ◌≤◌, ◌<◌, length};
+ghost use Rattle.domain_zonefile.specs.Streams.{piece_error, text_error};
 
 use crate::context::Context;
 use crate::error::EntryReason;
@@ -28,7 +29,9 @@ pub enum StreamTextError {
 }
 
 /// Returns the error of a stream whose text has this one.
-fn of_text(error: ZoneTextError) -> StreamTextError {
+fn of_text(error: ZoneTextError) -> StreamTextError
+    ensures { result ≡ text_error error }
+{
     match error {
         ZoneTextError::Refused(place, reason) => StreamTextError::Refused(place, reason),
         ZoneTextError::Memory => StreamTextError::Memory,
@@ -36,7 +39,9 @@ fn of_text(error: ZoneTextError) -> StreamTextError {
 }
 
 /// Returns the error of a stream of which a piece isn't taken.
-fn of_piece(error: PieceError) -> StreamTextError {
+fn of_piece(error: PieceError) -> StreamTextError
+    ensures { result ≡ piece_error error }
+{
     match error {
         PieceError::TooLong(place) => StreamTextError::TooLong(place),
         PieceError::Memory => StreamTextError::Memory,
@@ -57,12 +62,12 @@ pub struct EntryReader<R> {
 }
 
 impl<R: Read + Drop> EntryReader<R> {
-    ghost use Rattle.std.specs.Prelude.{◌≡◌, ◌++◌, [], IfOk, IfErr, OnErr, option_map};
+    ghost use Rattle.std.specs.Prelude.{IfOk, IfErr, OnOk, OnErr, option_map};
     ghost use Rattle.domain_zonefile.specs.Meanings.{setting_of};
     ghost use Rattle.domain_zonefile.specs.Pieces.{limit_after};
     ghost use Rattle.domain_zonefile.specs.Places.{at_start};
     ghost use Rattle.domain_zonefile.specs.Reading.{entry_view};
-    ghost use Rattle.domain_zonefile.specs.Streams.{GivesNext, HasNoNext, stream_limit, stream_place, stream_setting, text_left};
+    ghost use Rattle.domain_zonefile.specs.Streams.{GivesNext, HasNoNext, IsStill, PushesPiece, reader_begin, reader_end, ReadsPiece, stream_limit, stream_place, stream_setting, text_left};
 
     /// Returns a reader of a stream from its next octet on, whose entries have at most `limit` octets each, with the
     /// ends of their lines. The context is what the first entries take where they leave something out.
@@ -106,16 +111,31 @@ impl<R: Read + Drop> EntryReader<R> {
     }
 
     /// Reads a piece of the stream, and returns whether there is one. It is called where none is left to push.
-    fn read_piece(&mut self) -> io::Result<bool> {
-        self.end = 0;
-        self.begin = 0;
-        let count = self.input.read(self.piece.as_mut_slice())?;
-        self.end = count;
-        Ok(count > 0)
+    fn read_piece(&mut self) -> io::Result<bool>
+        requires { reader_begin self.old ≡ reader_end self.old }
+        ensures ok { IfOk result (ReadsPiece R.Read self.old self.new) }
+        ensures err { OnErr result (IsStill R.Read self.old self.new) }
+    {
+        match self.input.read(self.piece.as_mut_slice()) {
+            Ok(count) => {
+                self.begin = 0;
+                self.end = count;
+                Ok(count > 0)
+            }
+            Err(error) => {
+                self.begin = 0;
+                self.end = 0;
+                Err(error)
+            }
+        }
     }
 
     /// Pushes what is left of a piece, up to the end of an entry.
-    fn push_piece(&mut self) -> Result<(), PieceError> {
+    fn push_piece(&mut self) -> Result<(), PieceError>
+        ensures ok { OnOk result (PushesPiece R.Read self.old self.new) }
+        ensures err { IfErr result (λ e. HasNoNext (stream_limit self.old) (stream_setting self.old)
+            (stream_place self.old) (text_left R.Read self.old) (piece_error e)) }
+    {
         let count = self
             .pieces
             .push(&self.piece.as_slice()[self.begin..self.end])?;
@@ -142,6 +162,7 @@ impl<R: Read + Drop> EntryReader<R> {
             (stream_place self.new)) }
         ensures err { IfErr result (HasNoNext (stream_limit self.old) (stream_setting self.old)
             (stream_place self.old) (text_left R.Read self.old)) }
+        ensures still { OnErr result (IsStill R.Read self.old self.new) }
     {
         'piece: loop {
             match self.pieces.next_entry(alloc) {
@@ -152,7 +173,12 @@ impl<R: Read + Drop> EntryReader<R> {
             if self.begin == self.end {
                 match self.read_piece() {
                     Ok(true) => (),
-                    Ok(false) => return self.pieces.last_entry(alloc).map_err(of_text),
+                    Ok(false) => {
+                        return match self.pieces.last_entry(alloc) {
+                            Ok(entry) => Ok(entry),
+                            Err(error) => Err(of_text(error)),
+                        };
+                    }
                     Err(error) => return Err(StreamTextError::Read(error)),
                 }
             }
