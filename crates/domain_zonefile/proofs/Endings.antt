@@ -141,16 +141,16 @@ same_after Comment p c = comment_tests (c == 10)
 abbrev choice : {A : Type 0} → Bool → Bool → Bool → Bool → A → A → A → A → A → A
 choice e o c z end opening low closing on = cond e end (cond o opening (cond c (cond z low closing) on))
 
-step_is : (m : Mode) (p d c : ℕ)
-    → step (Inside (unplaced m) d) c ≡ choice (ends m d c) (opens m c) (closes m c) (d == 0)
-    Ended (Inside (unplaced m) (d + 1)) Ended (Inside (unplaced m) (d - 1)) (Inside (unplaced (after m p c)) d)
+abbrev stepped : Mode → ℕ → Bool → Bool → Bool → Mode → Progress
+stepped u d e o k next = choice e o k (d == 0) Ended (Inside u (d + 1)) Ended (Inside u (d - 1)) (Inside next d)
+
+step_is : (m : Mode) (p d c : ℕ) → step (Inside (unplaced m) d) c ≡ stepped (unplaced m) d (ends m d c) (opens m c) (closes m c) (unplaced (after m p c))
 step_is m p d c =
     let u = unplaced m in
-    let of = λ (e o k : Bool) (n : Mode). choice e o k (d == 0) Ended (Inside u (d + 1)) Ended (Inside u (d - 1)) (Inside n d) in
-    ap (λ (e : Bool). of e (opens u c) (closes u c) (after u 0 c)) (same_ends m d c)
-    ∙ (ap (λ (o : Bool). of (ends m d c) o (closes u c) (after u 0 c)) (same_opens m c)
-    ∙ (ap (λ (k : Bool). of (ends m d c) (opens m c) k (after u 0 c)) (same_closes m c)
-    ∙ ap (λ (n : Mode). of (ends m d c) (opens m c) (closes m c) n) (same_after m p c)))
+    ap (λ (e : Bool). stepped u d e (opens u c) (closes u c) (after u 0 c)) (same_ends m d c)
+    ∙ (ap (λ (o : Bool). stepped u d (ends m d c) o (closes u c) (after u 0 c)) (same_opens m c)
+    ∙ (ap (λ (k : Bool). stepped u d (ends m d c) (opens m c) k (after u 0 c)) (same_closes m c)
+    ∙ ap (λ (n : Mode). stepped u d (ends m d c) (opens m c) (closes m c) n) (same_after m p c)))
 
 -- ---- an entry that has ended
 -- the same part of a longer text

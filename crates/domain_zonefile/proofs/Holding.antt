@@ -5,6 +5,10 @@ use Rattle.domain_zonefile.specs.declared.ending.Progress.TheVariants.{Inside, E
 use Rattle.domain_zonefile.specs.Endings.{behind, depth_of, entry_len, front, is_inside, IsCounted, progress, start, step}
 use Rattle.domain_zonefile.proofs.Endings.{behind_ended, behind_front, behind_more, behind_none, front_ended, front_more, parts_len, progress_front, progress_more, ended_stays}
 
+no_octet : (xs : List ℕ) → length xs ≡ 0 → xs ≡ []
+no_octet [] h = refl
+no_octet (x ∷ xs) h = absurd (omega arith)
+
 -- ---- a piece in two parts, of which the first was scanned
 inside_not : (s : Progress) → is_inside s ≡ false → s ≡ Ended
 inside_not Ended h = refl
@@ -48,11 +52,11 @@ counted_all s now piece rest room count behind_is is within counts deep =
     record { count_is = omega arith; within = omega arith; now_is = is; deep = omega arith }
 
 pub counted : (s now : Progress) (near far piece rest : List ℕ) (room count : ℕ) → piece ≡ near ++ far → rest ≡ behind s near → now ≡ progress s near
-    → (is_inside now ≡ true → far ≡ []) → length near ≤ room → count ≡ length near - length rest → depth_of now + length rest ≤ depth_of s + length near → IsCounted s room piece count now
+    → (is_inside now ≡ true → length far ≡ 0) → length near ≤ room → count ≡ length near - length rest → depth_of now + length rest ≤ depth_of s + length near → IsCounted s room piece count now
 counted s Ended near far piece rest room count parts behind_is is all within counts deep =
     counted_ended s near far piece rest room count parts behind_is is within counts deep
 counted s (Inside m d) near far piece rest room count parts behind_is is all within counts deep =
-    let same : near ≡ piece = sym (parts ∙ (ap (λ (x : List ℕ). near ++ x) (all refl) ∙ append-nil near)) in
+    let same : near ≡ piece = sym (parts ∙ (ap (λ (x : List ℕ). near ++ x) (no_octet far (all refl)) ∙ append-nil near)) in
     subst (λ (x : List ℕ). IsCounted s room x count (Inside m d)) same (counted_all s (Inside m d) near rest room count behind_is is within counts deep)
 
 -- ---- what is held

@@ -6,18 +6,15 @@ use Rattle.std.specs.Io.KnownBytes.{Consumes, IsAtEnd, Keeps, prepend_known}
 use Rattle.domain_rdata_text.specs.declared.place.Place.{Place}
 use Rattle.domain_zonefile.specs.declared.ending.Progress.{Progress}
 use Rattle.domain_zonefile.specs.declared.ending.Progress.TheVariants.{Inside, Ended}
-use Rattle.domain_zonefile.specs.declared.error.EntryReason.{EntryReason}
-use Rattle.domain_zonefile.specs.declared.pieces.PieceError.{PieceError}
-use Rattle.domain_zonefile.specs.declared.pieces.PieceError.TheVariants as pieces
 use Rattle.domain_zonefile.specs.declared.reader.ZoneTextError.{ZoneTextError}
 use Rattle.domain_zonefile.specs.declared.reader.ZoneTextError.TheVariants as texts
 use Rattle.domain_zonefile.specs.Endings.{behind, entry_len, front, HasEnd, start, step}
 use Rattle.domain_zonefile.specs.Meanings.{Setting}
-use Rattle.domain_zonefile.specs.Pieces.{GivesLast}
-use Rattle.domain_zonefile.specs.Places.{IsFaultFrom, IsTextFaultFrom, place_behind}
+use Rattle.domain_zonefile.specs.Pieces.{GivesLast, limit_after}
+use Rattle.domain_zonefile.specs.Places.{IsTextFaultFrom}
 use Rattle.domain_zonefile.specs.Readers.{ReadsNext}
 use Rattle.domain_zonefile.specs.Reading.{EntrySaid, ReadsEntry}
-use Rattle.domain_zonefile.specs.Streams.{GivesNext, HasFault, HasNoNext, IsTooLong, text_error}
+use Rattle.domain_zonefile.specs.Streams.{GivesNext, HasNoNext, IsTooLong, Position, position_after, text_error}
 use Rattle.domain_zonefile.proofs.Endings.{front_ended, parts_are}
 use Rattle.domain_zonefile.proofs.Entering.{next_entry}
 
@@ -32,22 +29,25 @@ keeps_on (Some x) (Some y) (Some z) h k = k ∙ h
 no_range : (xs : List ℕ) (b e : ℕ) → b ≡ e → slice_range xs b e ≡ []
 no_range xs b e same = let none : e - b ≡ 0 = omega arith in ap (λ (n : ℕ). take n (drop b xs)) none
 
+whole_range : (xs : List ℕ) (n : ℕ) → slice_range xs 0 n ≡ take n xs
+whole_range xs n = let all : n - 0 ≡ n = omega arith in ap (λ (m : ℕ). take m xs) all
+
 -- A piece was read where none was left.
 pub read_keeps : (held piece buf : List ℕ) (b e n : ℕ) (old new : Option (List ℕ)) → b ≡ e → Consumes old new (take n buf)
     → Keeps (prepend_known (held ++ slice_range piece b e) old) (prepend_known (held ++ slice_range buf 0 n) new)
 read_keeps held piece buf b e n None new same h = tt
 read_keeps held piece buf b e n (Some xs) None same h = absurd h
 read_keeps held piece buf b e n (Some xs) (Some ys) same h =
-    append_assoc held (take n buf) ys ∙ (ap (λ (x : List ℕ). held ++ x) (sym h)
-    ∙ ap (λ (x : List ℕ). x ++ xs) (sym (append-nil held) ∙ ap (λ (x : List ℕ). held ++ x) (sym (no_range piece b e same))))
+    ap (λ (x : List ℕ). (held ++ x) ++ ys) (whole_range buf n)
+    ∙ (append_assoc held (take n buf) ys ∙ (ap (λ (x : List ℕ). held ++ x) (sym h)
+    ∙ ap (λ (x : List ℕ). x ++ xs) (sym (append-nil held) ∙ ap (λ (x : List ℕ). held ++ x) (sym (no_range piece b e same)))))
 
 -- Octets of a piece were pushed.
 range_rest : (piece : List ℕ) (b e k : ℕ) → b + k ≤ e → drop k (slice_range piece b e) ≡ slice_range piece (b + k) e
 range_rest piece b e k h =
-    let m = e - (b + k) in
-    let size : e - b ≡ k + m = omega arith in
+    let size : e - b ≡ k + (e - (b + k)) = omega arith in
     ap (λ (n : ℕ). drop k (take n (drop b piece))) size
-    ∙ (drop-take k m (drop b piece) ∙ ap (λ (x : List ℕ). take m x) (drop-drop k b piece))
+    ∙ (drop-take k (e - (b + k)) (drop b piece) ∙ ap (λ (x : List ℕ). take (e - (b + k)) x) (drop-drop k b piece))
 
 range_parts : (piece : List ℕ) (b e k : ℕ) → b + k ≤ e → take k (slice_range piece b e) ++ slice_range piece (b + k) e ≡ slice_range piece b e
 range_parts piece b e k h =
@@ -92,31 +92,31 @@ some_octets : (held more : List ℕ) → HasEnd held → 0 < length (held ++ mor
 some_octets [] more end = no_end (0 < length more) end
 some_octets (c ∷ cs) more end = omega arith
 
-pub gives_some : (n : ℕ) (s : Setting) (from : Place) (given rem : Option (List ℕ)) (held u : List ℕ) (said : EntrySaid) (t : Setting) (to : Place)
-    → Keeps given (prepend_known (held ++ u) rem) → HasEnd held → behind start held ≡ [] → length held ≤ n
-    → ((more : List ℕ) → ReadsEntry s (held ++ more) said more t) → to ≡ place_behind from held
-    → GivesNext n s from given (Some said) (prepend_known u rem) t to
-gives_some n s from None rem held u said t to keeps end one within reads placed = record {
+pub gives_some : (limit : ℕ) (old new : Position) (given rem : Option (List ℕ)) (held u : List ℕ) (said : EntrySaid)
+    → Keeps given (prepend_known (held ++ u) rem) → HasEnd held → behind start held ≡ [] → length held ≤ limit_after limit old.passed
+    → ((more : List ℕ) → ReadsEntry old.setting (held ++ more) said more new.setting) → new ≡ position_after old held new.setting
+    → GivesNext limit old given (Some said) (prepend_known u rem) new
+gives_some limit old new None rem held u said keeps end one within reads placed = record {
   text = held ++ [];
   lines = held;
   rest = [];
   is_left = tt;
   stays = tt;
   parts = refl;
-  reads = next_entry s (held ++ []) said [] t (some_octets held [] end) (reads []);
-  short = whole_short held [] n end one within;
+  reads = next_entry old.setting (held ++ []) said [] new.setting (some_octets held [] end) (reads []);
+  short = whole_short held [] (limit_after limit old.passed) end one within;
   placed = placed;
 }
-gives_some n s from (Some xs) None held u said t to keeps end one within reads placed = absurd keeps
-gives_some n s from (Some xs) (Some ys) held u said t to keeps end one within reads placed = record {
+gives_some limit old new (Some xs) None held u said keeps end one within reads placed = absurd keeps
+gives_some limit old new (Some xs) (Some ys) held u said keeps end one within reads placed = record {
   text = held ++ (u ++ ys);
   lines = held;
   rest = u ++ ys;
   is_left = sym keeps ∙ append_assoc held u ys;
   stays = refl;
   parts = refl;
-  reads = next_entry s (held ++ (u ++ ys)) said (u ++ ys) t (some_octets held (u ++ ys) end) (reads (u ++ ys));
-  short = whole_short held (u ++ ys) n end one within;
+  reads = next_entry old.setting (held ++ (u ++ ys)) said (u ++ ys) new.setting (some_octets held (u ++ ys) end) (reads (u ++ ys));
+  short = whole_short held (u ++ ys) (limit_after limit old.passed) end one within;
   placed = placed;
 }
 
@@ -135,12 +135,12 @@ nothing_left : (new u ys : List ℕ) → new ≡ [] → u ≡ [] → ys ≡ [] �
 nothing_left new u ys a b c =
     ap (λ (x : List ℕ). Some ((x ++ u) ++ ys)) a ∙ (ap (λ (x : List ℕ). Some (x ++ ys)) b ∙ ap (λ (x : List ℕ). Some x) c)
 
-pub gives_last : (n : ℕ) (s : Setting) (from : Place) (given rem : Option (List ℕ)) (held u new : List ℕ) (told : Option EntrySaid) (t : Setting) (to : Place)
-    → Keeps given (prepend_known (held ++ u) rem) → u ≡ [] → IsAtEnd rem → behind start held ≡ [] → length held ≤ n
-    → GivesLast s held told new t → to ≡ place_behind from held
-    → GivesNext n s from given told (prepend_known (new ++ u) rem) t to
-gives_last n s from None rem held u new told t to keeps none end one within last placed =
-    let it = last_next s held told new t last in record {
+pub gives_last : (limit : ℕ) (old next : Position) (given rem : Option (List ℕ)) (held u new : List ℕ) (told : Option EntrySaid)
+    → Keeps given (prepend_known (held ++ u) rem) → u ≡ [] → IsAtEnd rem → behind start held ≡ [] → length held ≤ limit_after limit old.passed
+    → GivesLast old.setting held told new next.setting → next ≡ position_after old held next.setting
+    → GivesNext limit old given told (prepend_known (new ++ u) rem) next
+gives_last limit old next None rem held u new told keeps none end one within last placed =
+    let it = last_next old.setting held told new next.setting last in record {
       text = held;
       lines = held;
       rest = [];
@@ -148,12 +148,12 @@ gives_last n s from None rem held u new told t to keeps none end one within last
       stays = tt;
       parts = sym (append-nil held);
       reads = it.0;
-      short = held_short held n one within;
+      short = held_short held (limit_after limit old.passed) one within;
       placed = placed;
     }
-gives_last n s from (Some xs) None held u new told t to keeps none end one within last placed = absurd keeps
-gives_last n s from (Some xs) (Some ys) held u new told t to keeps none end one within last placed =
-    let it = last_next s held told new t last in record {
+gives_last limit old next (Some xs) None held u new told keeps none end one within last placed = absurd keeps
+gives_last limit old next (Some xs) (Some ys) held u new told keeps none end one within last placed =
+    let it = last_next old.setting held told new next.setting last in record {
       text = held;
       lines = held;
       rest = [];
@@ -161,35 +161,40 @@ gives_last n s from (Some xs) (Some ys) held u new told t to keeps none end one 
       stays = nothing_left new u ys it.1 none end;
       parts = sym (append-nil held);
       reads = it.0;
-      short = held_short held n one within;
+      short = held_short held (limit_after limit old.passed) one within;
       placed = placed;
     }
 
 -- ---- no entry
-pub no_next : (n : ℕ) (s : Setting) (from : Place) (given rem : Option (List ℕ)) (held u : List ℕ) (e : ZoneTextError)
-    → Keeps given (prepend_known (held ++ u) rem) → HasEnd held → behind start held ≡ [] → length held ≤ n
-    → ((more : List ℕ) → IsTextFaultFrom s from (held ++ more) e) → HasNoNext n s from given (text_error e)
-no_next n s from given rem held u texts.Memory keeps end one within faults = tt
-no_next n s from None rem held u (texts.Refused at why) keeps end one within faults =
-    record { text = held ++ []; is_left = tt; fault = faults []; short = whole_short held [] n end one within }
-no_next n s from (Some xs) None held u (texts.Refused at why) keeps end one within faults = absurd keeps
-no_next n s from (Some xs) (Some ys) held u (texts.Refused at why) keeps end one within faults =
-    record { text = held ++ (u ++ ys); is_left = sym keeps ∙ append_assoc held u ys; fault = faults (u ++ ys); short = whole_short held (u ++ ys) n end one within }
+pub no_next : (limit : ℕ) (at : Position) (given rem : Option (List ℕ)) (held u : List ℕ) (e : ZoneTextError)
+    → Keeps given (prepend_known (held ++ u) rem) → HasEnd held → behind start held ≡ [] → length held ≤ limit_after limit at.passed
+    → ((more : List ℕ) → IsTextFaultFrom at.setting at.place (held ++ more) e) → HasNoNext limit at given (text_error e)
+no_next limit at given rem held u texts.Memory keeps end one within faults = tt
+no_next limit at None rem held u (texts.Refused place why) keeps end one within faults =
+    record { text = held ++ []; is_left = tt; fault = faults []; short = whole_short held [] (limit_after limit at.passed) end one within }
+no_next limit at (Some xs) None held u (texts.Refused place why) keeps end one within faults = absurd keeps
+no_next limit at (Some xs) (Some ys) held u (texts.Refused place why) keeps end one within faults = record {
+  text = held ++ (u ++ ys);
+  is_left = sym keeps ∙ append_assoc held u ys;
+  fault = faults (u ++ ys);
+  short = whole_short held (u ++ ys) (limit_after limit at.passed) end one within;
+}
 
-pub no_last : (n : ℕ) (s : Setting) (from : Place) (given rem : Option (List ℕ)) (held u : List ℕ) (e : ZoneTextError)
-    → Keeps given (prepend_known (held ++ u) rem) → u ≡ [] → IsAtEnd rem → behind start held ≡ [] → length held ≤ n
-    → IsTextFaultFrom s from held e → HasNoNext n s from given (text_error e)
-no_last n s from given rem held u texts.Memory keeps none end one within fault = tt
-no_last n s from None rem held u (texts.Refused at why) keeps none end one within fault =
-    record { text = held; is_left = tt; fault = fault; short = held_short held n one within }
-no_last n s from (Some xs) None held u (texts.Refused at why) keeps none end one within fault = absurd keeps
-no_last n s from (Some xs) (Some ys) held u (texts.Refused at why) keeps none end one within fault =
-    record { text = held; is_left = at_end xs held u ys keeps none end; fault = fault; short = held_short held n one within }
+pub no_last : (limit : ℕ) (at : Position) (given rem : Option (List ℕ)) (held u : List ℕ) (e : ZoneTextError)
+    → Keeps given (prepend_known (held ++ u) rem) → u ≡ [] → IsAtEnd rem → behind start held ≡ [] → length held ≤ limit_after limit at.passed
+    → IsTextFaultFrom at.setting at.place held e → HasNoNext limit at given (text_error e)
+no_last limit at given rem held u texts.Memory keeps none end one within fault = tt
+no_last limit at None rem held u (texts.Refused place why) keeps none end one within fault =
+    record { text = held; is_left = tt; fault = fault; short = held_short held (limit_after limit at.passed) one within }
+no_last limit at (Some xs) None held u (texts.Refused place why) keeps none end one within fault = absurd keeps
+no_last limit at (Some xs) (Some ys) held u (texts.Refused place why) keeps none end one within fault =
+    record { text = held; is_left = at_end xs held u ys keeps none end; fault = fault; short = held_short held (limit_after limit at.passed) one within }
 
 -- An entry is longer than the limit in a text if it is in the first part of it.
-pub too_long : (n : ℕ) (given rem : Option (List ℕ)) (held u : List ℕ) → Keeps given (prepend_known (held ++ u) rem) → n < entry_len (held ++ u) → IsTooLong n given
-too_long n None rem held u keeps long = record { text = held ++ u; is_left = tt; long = long }
-too_long n (Some xs) None held u keeps long = absurd keeps
-too_long n (Some xs) (Some ys) held u keeps long =
+pub too_long : (limit : ℕ) (at : Position) (given rem : Option (List ℕ)) (held u : List ℕ) (place : Place)
+    → Keeps given (prepend_known (held ++ u) rem) → limit_after limit at.passed < entry_len (held ++ u) → place ≡ at.place → IsTooLong limit at given place
+too_long limit at None rem held u place keeps long placed = record { text = held ++ u; is_left = tt; long = long; placed = placed }
+too_long limit at (Some xs) None held u place keeps long placed = absurd keeps
+too_long limit at (Some xs) (Some ys) held u place keeps long placed =
     let grows = entry_grows (held ++ u) ys in
-    record { text = (held ++ u) ++ ys; is_left = sym keeps; long = omega arith }
+    record { text = (held ++ u) ++ ys; is_left = sym keeps; long = omega arith; placed = placed }

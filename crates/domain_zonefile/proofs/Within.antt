@@ -12,7 +12,7 @@ use Rattle.domain_zonefile.specs.declared.error.EntryReason.TheVariants as reaso
 use Rattle.domain_zonefile.specs.declared.head.Head.{Head}
 use Rattle.domain_zonefile.specs.declared.head.Stated.{Stated}
 use Rattle.domain_zonefile.specs.Directives.{directive, extra_word, include_line, is_directive, Line, origin_line, ttl_line, unless, with_name, with_ttl as with_line_ttl}
-use Rattle.domain_zonefile.specs.Directives.Line.{origin, include_at as at_line}
+use Rattle.domain_zonefile.specs.Directives.Line.{origin, default_ttl, include_at as at_line}
 use Rattle.domain_zonefile.specs.Entries.{after, AreLike, closes, cut, cut_from, ends, IsLinesAndRest, last_part, left_open, opens, Part, part, place, unfinished}
 use Rattle.domain_zonefile.specs.Heads.{after_two, begin_of, begins_with_digit, head, head_at, more_stated, stated, StatedWords, take_stated, typed, with_word}
 use Rattle.domain_zonefile.specs.Meanings.{first_of_two, front, Means, of_last_owner, of_owner, RecordFront, Said, said_front, said_line, Setting, with_defaults, with_ttl, words_meaning}
@@ -100,7 +100,7 @@ name_small n f w ws (Some os) h = extra_small n (f os) ws h.1
 
 line_ttl_small : (n : ℕ) (w : WordAt) (ws : List WordAt) (x : Option ℕ) → Below n (w ∷ ws) → SmallLine n (with_line_ttl w ws x)
 line_ttl_small n w ws None h = let low = h.0 in omega arith
-line_ttl_small n w ws (Some t) h = extra_small n _ ws h.1
+line_ttl_small n w ws (Some t) h = extra_small n (default_ttl t) ws h.1
 
 origin_small : (n : ℕ) (o : List ℕ) (ws : List WordAt) → Below n ws → SmallLine n (origin_line o n ws)
 origin_small n o [] h = omega arith

@@ -45,10 +45,11 @@ behind (Inside m d) (c ∷ cs) = behind (step (Inside m d) c) cs
 abbrev pub HasEnd : List ℕ → Type 0
 HasEnd text = progress start text ≡ Ended
 
--- the octets of a text that are of its first entry, with the end of its last line, and those after them
+-- the octets of a text that are of its first entry, with the end of its last line
 abbrev pub entry_lines : List ℕ → List ℕ
 entry_lines text = front start text
 
+-- the octets after those
 abbrev pub after_entry : List ℕ → List ℕ
 after_entry text = behind start text
 

@@ -1,5 +1,5 @@
 -- The entries of a stream, of which what is left to read may be known or not.
-use Rattle.std.specs.Prelude.{◌≡◌, ℕ, ◌<◌, ◌≤◌, Bool, true, false, List, ◌++◌, length, slice_range, Option, Some, IfSome}
+use Rattle.std.specs.Prelude.{◌≡◌, ℕ, ◌+◌, ◌<◌, ◌≤◌, Bool, true, false, List, ◌++◌, length, slice_range, Option, Some, IfSome}
 use Rattle.std.specs.Io.KnownBytes.{IsAtEnd, Keeps, prepend_known}
 use Rattle.std.specs.declared.io.traits.Read.{Ghosts as ReadMembers}
 use Rattle.domain_rdata_text.specs.declared.place.Place.{Place}
@@ -14,7 +14,7 @@ use Rattle.domain_zonefile.specs.declared.error.EntryReason.{EntryReason}
 use Rattle.domain_zonefile.specs.Endings.{entry_len, HasEnd}
 use Rattle.domain_zonefile.specs.Meanings.{Setting}
 use Rattle.domain_zonefile.specs.Pieces.{held_octets, limit_after, most_octets, passed_octets, pieces_place, pieces_setting}
-use Rattle.domain_zonefile.specs.Places.{IsFaultFrom, place_behind}
+use Rattle.domain_zonefile.specs.Places.{at_start, IsFaultFrom, place_behind}
 use Rattle.domain_zonefile.specs.Readers.{ReadsNext}
 use Rattle.domain_zonefile.specs.Reading.{EntrySaid}
 
@@ -26,17 +26,33 @@ unread_octets r = held_octets r.pieces ++ slice_range r.piece.items r.begin r.en
 abbrev pub text_left : {R : Type 0} → ReadMembers R → EntryReader R → Option (List ℕ)
 text_left g r = prepend_known (unread_octets r) (g.remaining r.input)
 
--- what earlier entries leave for the next one
-abbrev pub stream_setting : {R : Type 0} → EntryReader R → Setting
-stream_setting r = pieces_setting r.pieces
+-- Where a reader of a text is: what earlier entries leave for the next one, line and column of its first octet, and how
+-- many octets are before it.
+pub record Position : Type 0 where
+  pub setting : Setting
+  pub place : Place
+  pub passed : ℕ
 
--- line and column of the first octet of the next entry
-abbrev pub stream_place : {R : Type 0} → EntryReader R → Place
-stream_place r = pieces_place r.pieces
+-- at the start of a text, with what its first entries take
+abbrev pub first_position : Setting → Position
+first_position s = record { setting = s; place = at_start; passed = 0 }
 
--- the most octets that the next entry may have, with the end of its last line
+-- after entries of these lines, which leave this
+abbrev pub position_after : Position → List ℕ → Setting → Position
+position_after p lines s =
+    record { setting = s; place = place_behind p.place lines; passed = p.passed + length lines }
+
+-- where a reader of a stream is: at the first octet of the next entry
+abbrev pub stream_position : {R : Type 0} → EntryReader R → Position
+stream_position r = record {
+  setting = pieces_setting r.pieces;
+  place = pieces_place r.pieces;
+  passed = passed_octets r.pieces;
+}
+
+-- the most octets that an entry may have, with the end of its last line
 abbrev pub stream_limit : {R : Type 0} → EntryReader R → ℕ
-stream_limit r = limit_after (most_octets r.pieces) (passed_octets r.pieces)
+stream_limit r = most_octets r.pieces
 
 -- where the octets of the piece begin and end that no entry has had so far
 abbrev pub reader_begin : {R : Type 0} → EntryReader R → ℕ
@@ -62,45 +78,44 @@ IsLeft given text = IfSome given (λ known. known ≡ text)
 abbrev pub StaysKnown : Option (List ℕ) → Option (List ℕ) → List ℕ → Type 0
 StaysKnown given left rest = IfSome given (λ known. left ≡ Some rest)
 
--- The next entry of a stream, as it is read from the whole text, and none at its end. It has at most n octets.
-pub record GivesNext (n : ℕ) (s : Setting) (from : Place) (given : Option (List ℕ)) (told : Option EntrySaid) (left : Option (List ℕ)) (t : Setting) (to : Place) : Type 0 where
+-- The next entry of a stream, as it is read from the whole text, and none at its end.
+pub record GivesNext (limit : ℕ) (old : Position) (given : Option (List ℕ)) (told : Option EntrySaid) (left : Option (List ℕ)) (new : Position) : Type 0 where
   pub text : List ℕ
   pub lines : List ℕ
   pub rest : List ℕ
   pub is_left : IsLeft given text
   pub stays : StaysKnown given left rest
   pub parts : text ≡ lines ++ rest
-  pub reads : ReadsNext s text told rest t
-  pub short : entry_len text ≤ n
-  pub placed : to ≡ place_behind from lines
+  pub reads : ReadsNext old.setting text told rest new.setting
+  pub short : entry_len text ≤ limit_after limit old.passed
+  pub placed : new ≡ position_after old lines new.setting
 
 -- The first fault of the next entry of a stream, as it is found in the whole text, with its line and column.
-pub record HasFault (n : ℕ) (s : Setting) (from : Place) (given : Option (List ℕ)) (at : Place) (why : EntryReason) : Type 0 where
+pub record HasFault (limit : ℕ) (at : Position) (given : Option (List ℕ)) (place : Place) (why : EntryReason) : Type 0 where
   pub text : List ℕ
   pub is_left : IsLeft given text
-  pub fault : IsFaultFrom s from text at why
-  pub short : entry_len text ≤ n
+  pub fault : IsFaultFrom at.setting at.place text place why
+  pub short : entry_len text ≤ limit_after limit at.passed
 
--- The next entry of a stream has more than n octets.
-pub record IsTooLong (n : ℕ) (given : Option (List ℕ)) : Type 0 where
+-- The next entry of a stream, which starts at this place, has more octets than the limit.
+pub record IsTooLong (limit : ℕ) (at : Position) (given : Option (List ℕ)) (place : Place) : Type 0 where
   pub text : List ℕ
   pub is_left : IsLeft given text
-  pub long : n < entry_len text
+  pub long : limit_after limit at.passed < entry_len text
+  pub placed : place ≡ at.place
 
 -- Why there is no next entry: one of these two, or the stream isn't read, or there was no memory.
-abbrev pub HasNoNext : ℕ → Setting → Place → Option (List ℕ) → StreamTextError → Type 0
-HasNoNext n s from given (Refused at why) = HasFault n s from given at why
-HasNoNext n s from given (TooLong at) = IsTooLong n given × (at ≡ from)
-HasNoNext n s from given (Read e) = Unit {0}
-HasNoNext n s from given Memory = Unit {0}
+abbrev pub HasNoNext : ℕ → Position → Option (List ℕ) → StreamTextError → Type 0
+HasNoNext limit at given (Refused place why) = HasFault limit at given place why
+HasNoNext limit at given (TooLong place) = IsTooLong limit at given place
+HasNoNext limit at given (Read e) = Unit {0}
+HasNoNext limit at given Memory = Unit {0}
 
--- A reader stays at its entry: what is left, where that is known, is the same, and so are the place and the context.
+-- A reader stays at its entry: what is left, where that is known, is the same.
 pub record IsStill {R : Type 0} (g : ReadMembers R) (old new : EntryReader R) : Type 0 where
   pub text : Keeps (text_left g old) (text_left g new)
-  pub setting : stream_setting new ≡ stream_setting old
-  pub place : stream_place new ≡ stream_place old
-  pub most : most_octets new.pieces ≡ most_octets old.pieces
-  pub passed : passed_octets new.pieces ≡ passed_octets old.pieces
+  pub position : stream_position new ≡ stream_position old
+  pub limit : stream_limit new ≡ stream_limit old
 
 -- A piece was read, or none is left to read; what is held is the same.
 pub record ReadsPiece {R : Type 0} (g : ReadMembers R) (old new : EntryReader R) (some : Bool) : Type 0 where
@@ -113,4 +128,4 @@ pub record ReadsPiece {R : Type 0} (g : ReadMembers R) (old new : EntryReader R)
 pub record PushesPiece {R : Type 0} (g : ReadMembers R) (old new : EntryReader R) : Type 0 where
   pub still : IsStill g old new
   pub more : (HasEnd (held_octets old.pieces) → ⊥) → old.begin < old.end → length (held_octets old.pieces) < length (held_octets new.pieces)
-  pub within : length (held_octets new.pieces) ≤ most_octets new.pieces
+  pub within : length (held_octets new.pieces) ≤ stream_limit new

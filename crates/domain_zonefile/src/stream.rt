@@ -64,10 +64,8 @@ pub struct EntryReader<R> {
 impl<R: Read + Drop> EntryReader<R> {
     ghost use Rattle.std.specs.Prelude.{IfOk, IfErr, OnOk, OnErr, option_map};
     ghost use Rattle.domain_zonefile.specs.Meanings.{setting_of};
-    ghost use Rattle.domain_zonefile.specs.Pieces.{limit_after};
-    ghost use Rattle.domain_zonefile.specs.Places.{at_start};
     ghost use Rattle.domain_zonefile.specs.Reading.{entry_view};
-    ghost use Rattle.domain_zonefile.specs.Streams.{GivesNext, HasNoNext, IsStill, PushesPiece, reader_begin, reader_end, ReadsPiece, stream_limit, stream_place, stream_setting, text_left};
+    ghost use Rattle.domain_zonefile.specs.Streams.{first_position, GivesNext, HasNoNext, IsStill, PushesPiece, reader_begin, reader_end, ReadsPiece, stream_limit, stream_position, text_left};
 
     /// Returns a reader of a stream from its next octet on, whose entries have at most `limit` octets each, with the
     /// ends of their lines. The context is what the first entries take where they leave something out.
@@ -82,9 +80,9 @@ impl<R: Read + Drop> EntryReader<R> {
         limit: usize,
     ) -> Result<EntryReader<R>, AllocError>
         ensures text { IfOk result (λ made. text_left R.Read made ≡ R.remaining input) }
-        ensures setting { IfOk result (λ made. stream_setting made ≡ setting_of context) }
-        ensures place { IfOk result (λ made. stream_place made ≡ at_start) }
-        ensures limit { IfOk result (λ made. stream_limit made ≡ limit_after limit 0) }
+        ensures position { IfOk result
+            (λ made. stream_position made ≡ first_position (setting_of context)) }
+        ensures limit { IfOk result (λ made. stream_limit made ≡ limit) }
     {
         let piece = vec![in alloc; 0u8; PIECE_LEN]?;
         Ok(EntryReader {
@@ -98,14 +96,14 @@ impl<R: Read + Drop> EntryReader<R> {
 
     /// Returns what the entries so far leave for the next one. A file that is included without a name has its origin.
     pub fn context(&self) -> &Context
-        ensures { setting_of result.now ≡ stream_setting self.now }
+        ensures { setting_of result.now ≡ (stream_position self.now).setting }
     {
         self.pieces.context()
     }
 
     /// Returns line and column, counted from 1 over the whole text, of the first octet of the next entry.
     pub fn place(&self) -> Place
-        ensures { result ≡ stream_place self.now }
+        ensures { result ≡ (stream_position self.now).place }
     {
         self.pieces.place()
     }
@@ -133,8 +131,9 @@ impl<R: Read + Drop> EntryReader<R> {
     /// Pushes what is left of a piece, up to the end of an entry.
     fn push_piece(&mut self) -> Result<(), PieceError>
         ensures ok { OnOk result (PushesPiece R.Read self.old self.new) }
-        ensures err { IfErr result (λ e. HasNoNext (stream_limit self.old) (stream_setting self.old)
-            (stream_place self.old) (text_left R.Read self.old) (piece_error e)) }
+        ensures err { IfErr result (λ e. HasNoNext (stream_limit self.old)
+            (stream_position self.old) (text_left R.Read self.old) (piece_error e)) }
+        ensures still { OnErr result (IsStill R.Read self.old self.new) }
     {
         let count = self
             .pieces
@@ -157,11 +156,11 @@ impl<R: Read + Drop> EntryReader<R> {
     /// The reader stays at the entry then, and another call goes on.
     pub fn next_entry(&mut self, alloc: Global) -> Result<Option<Entry>, StreamTextError>
         ensures ok { IfOk result (λ told. GivesNext (stream_limit self.old)
-            (stream_setting self.old) (stream_place self.old) (text_left R.Read self.old)
-            (option_map entry_view told) (text_left R.Read self.new) (stream_setting self.new)
-            (stream_place self.new)) }
-        ensures err { IfErr result (HasNoNext (stream_limit self.old) (stream_setting self.old)
-            (stream_place self.old) (text_left R.Read self.old)) }
+            (stream_position self.old) (text_left R.Read self.old) (option_map entry_view told)
+            (text_left R.Read self.new) (stream_position self.new)) }
+        ensures err { IfErr result (HasNoNext (stream_limit self.old) (stream_position self.old)
+            (text_left R.Read self.old)) }
+        ensures limit { stream_limit self.new ≡ stream_limit self.old }
         ensures still { OnErr result (IsStill R.Read self.old self.new) }
     {
         'piece: loop {
