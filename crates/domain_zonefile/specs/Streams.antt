@@ -1,5 +1,5 @@
 -- The entries of a stream, of which what is left to read may be known or not.
-use Rattle.std.specs.Prelude.{◌≡◌, ℕ, ◌+◌, ◌<◌, ◌≤◌, Bool, true, false, List, ◌++◌, length, slice_range, Option, Some, IfSome}
+use Rattle.std.specs.Prelude.{◌≡◌, ℕ, ◌+◌, ◌<◌, ◌≤◌, Bool, true, false, List, ◌++◌, length, slice_range, Option, Some, None, IfSome}
 use Rattle.std.specs.Io.KnownBytes.{IsAtEnd, Keeps, prepend_known}
 use Rattle.std.specs.declared.io.traits.Read.{Ghosts as ReadMembers}
 use Rattle.domain_rdata_text.specs.declared.place.Place.{Place}
@@ -33,22 +33,20 @@ pub record Position : Type 0 where
   pub place : Place
   pub passed : ℕ
 
+abbrev pub at_position : Setting → Place → ℕ → Position
+at_position s p n = record { setting = s; place = p; passed = n }
+
 -- at the start of a text, with what its first entries take
 abbrev pub first_position : Setting → Position
-first_position s = record { setting = s; place = at_start; passed = 0 }
+first_position s = at_position s at_start 0
 
 -- after entries of these lines, which leave this
 abbrev pub position_after : Position → List ℕ → Setting → Position
-position_after p lines s =
-    record { setting = s; place = place_behind p.place lines; passed = p.passed + length lines }
+position_after p lines s = at_position s (place_behind p.place lines) (p.passed + length lines)
 
 -- where a reader of a stream is: at the first octet of the next entry
 abbrev pub stream_position : {R : Type 0} → EntryReader R → Position
-stream_position r = record {
-  setting = pieces_setting r.pieces;
-  place = pieces_place r.pieces;
-  passed = passed_octets r.pieces;
-}
+stream_position r = at_position (pieces_setting r.pieces) (pieces_place r.pieces) (passed_octets r.pieces)
 
 -- the most octets that an entry may have, with the end of its last line
 abbrev pub stream_limit : {R : Type 0} → EntryReader R → ℕ
@@ -60,6 +58,10 @@ reader_begin r = r.begin
 
 abbrev pub reader_end : {R : Type 0} → EntryReader R → ℕ
 reader_end r = r.end
+
+-- what the reader reads
+abbrev pub reader_input : {R : Type 0} → EntryReader R → R
+reader_input r = r.input
 
 -- the error of a stream whose text has this one, and of one of which a piece isn't taken for this reason
 abbrev pub text_error : ZoneTextError → StreamTextError
@@ -116,6 +118,14 @@ pub record IsStill {R : Type 0} (g : ReadMembers R) (old new : EntryReader R) : 
   pub text : Keeps (text_left g old) (text_left g new)
   pub position : stream_position new ≡ stream_position old
   pub limit : stream_limit new ≡ stream_limit old
+
+-- The entry that is held is the next one; or it hasn't ended, and all is the same.
+abbrev pub GivesWhole : {R : Type 0} → ReadMembers R → EntryReader R → Option EntrySaid → EntryReader R → Type 0
+GivesWhole g old None new =
+    IsStill g old new × (HasEnd (held_octets new.pieces) → ⊥)
+    × (held_octets new.pieces ≡ held_octets old.pieces)
+GivesWhole g old (Some said) new =
+    GivesNext (stream_limit old) (stream_position old) (text_left g old) (Some said) (text_left g new) (stream_position new)
 
 -- A piece was read, or none is left to read; what is held is the same.
 pub record ReadsPiece {R : Type 0} (g : ReadMembers R) (old new : EntryReader R) (some : Bool) : Type 0 where

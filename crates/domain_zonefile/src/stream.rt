@@ -63,9 +63,10 @@ pub struct EntryReader<R> {
 
 impl<R: Read + Drop> EntryReader<R> {
     ghost use Rattle.std.specs.Prelude.{IfOk, IfErr, OnOk, OnErr, option_map};
+    ghost use Rattle.std.specs.Io.KnownBytes.{IsAtEnd};
     ghost use Rattle.domain_zonefile.specs.Meanings.{setting_of};
     ghost use Rattle.domain_zonefile.specs.Reading.{entry_view};
-    ghost use Rattle.domain_zonefile.specs.Streams.{first_position, GivesNext, HasNoNext, IsStill, PushesPiece, reader_begin, reader_end, ReadsPiece, stream_limit, stream_position, text_left};
+    ghost use Rattle.domain_zonefile.specs.Streams.{first_position, GivesNext, GivesWhole, HasNoNext, IsStill, PushesPiece, reader_begin, reader_end, reader_input, ReadsPiece, stream_limit, stream_position, text_left};
 
     /// Returns a reader of a stream from its next octet on, whose entries have at most `limit` octets each, with the
     /// ends of their lines. The context is what the first entries take where they leave something out.
@@ -106,6 +107,39 @@ impl<R: Read + Drop> EntryReader<R> {
         ensures { result ≡ (stream_position self.now).place }
     {
         self.pieces.place()
+    }
+
+    /// Returns the entry that is held, if it has ended.
+    fn take_whole(&mut self, alloc: Global) -> Result<Option<Entry>, StreamTextError>
+        ensures ok { IfOk result (λ told. GivesWhole R.Read self.old (option_map entry_view told)
+            self.new) }
+        ensures err { IfErr result (HasNoNext (stream_limit self.old) (stream_position self.old)
+            (text_left R.Read self.old)) }
+        ensures limit { stream_limit self.new ≡ stream_limit self.old }
+        ensures still { OnErr result (IsStill R.Read self.old self.new) }
+    {
+        match self.pieces.next_entry(alloc) {
+            Ok(entry) => Ok(entry),
+            Err(error) => Err(of_text(error)),
+        }
+    }
+
+    /// Returns the entry that is held where the stream has ended.
+    fn take_last(&mut self, alloc: Global) -> Result<Option<Entry>, StreamTextError>
+        requires none { reader_begin self.old ≡ reader_end self.old }
+        requires end { IsAtEnd (R.remaining (reader_input self.old)) }
+        ensures ok { IfOk result (λ told. GivesNext (stream_limit self.old)
+            (stream_position self.old) (text_left R.Read self.old) (option_map entry_view told)
+            (text_left R.Read self.new) (stream_position self.new)) }
+        ensures err { IfErr result (HasNoNext (stream_limit self.old) (stream_position self.old)
+            (text_left R.Read self.old)) }
+        ensures limit { stream_limit self.new ≡ stream_limit self.old }
+        ensures still { OnErr result (IsStill R.Read self.old self.new) }
+    {
+        match self.pieces.last_entry(alloc) {
+            Ok(entry) => Ok(entry),
+            Err(error) => Err(of_text(error)),
+        }
     }
 
     /// Reads a piece of the stream, and returns whether there is one. It is called where none is left to push.
@@ -164,20 +198,15 @@ impl<R: Read + Drop> EntryReader<R> {
         ensures still { OnErr result (IsStill R.Read self.old self.new) }
     {
         'piece: loop {
-            match self.pieces.next_entry(alloc) {
+            match self.take_whole(alloc) {
                 Ok(Some(entry)) => return Ok(Some(entry)),
                 Ok(None) => (),
-                Err(error) => return Err(of_text(error)),
+                Err(error) => return Err(error),
             }
             if self.begin == self.end {
                 match self.read_piece() {
                     Ok(true) => (),
-                    Ok(false) => {
-                        return match self.pieces.last_entry(alloc) {
-                            Ok(entry) => Ok(entry),
-                            Err(error) => Err(of_text(error)),
-                        };
-                    }
+                    Ok(false) => return self.take_last(alloc),
                     Err(error) => return Err(StreamTextError::Read(error)),
                 }
             }
