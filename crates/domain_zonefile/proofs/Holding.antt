@@ -1,9 +1,10 @@
 -- What is held of an entry, and what a piece adds to it.
-use Rattle.std.proofs.Common.{◌≡◌, ◌∙◌, ℕ, ◌+◌, ◌-◌, ◌<◌, ◌≤◌, Bool, true, false, List, [], ◌∷◌, ◌++◌, length, take, refl, sym, ap, subst, arith, append-nil, length-append}
+use Rattle.std.proofs.Common.{◌≡◌, ◌∙◌, ℕ, ◌+◌, ◌-◌, ◌<◌, ◌≤◌, Bool, true, false, List, [], ◌∷◌, ◌++◌, length, take, refl, sym, ap, subst, arith, append-nil, length-append, length-take}
 use Rattle.domain_zonefile.specs.declared.ending.Progress.{Progress}
 use Rattle.domain_zonefile.specs.declared.ending.Progress.TheVariants.{Inside, Ended}
-use Rattle.domain_zonefile.specs.Endings.{behind, depth_of, entry_len, front, is_inside, IsCounted, progress, start, step}
-use Rattle.domain_zonefile.proofs.Endings.{behind_ended, behind_front, behind_more, behind_none, front_ended, front_more, parts_len, progress_front, progress_more, ended_stays}
+use Rattle.domain_zonefile.specs.Endings.{behind, depth_of, entry_len, front, HasEnd, is_inside, IsCounted, progress, start, step}
+use Rattle.domain_zonefile.specs.Pieces.{limit_after, TakesPiece}
+use Rattle.domain_zonefile.proofs.Endings.{behind_front, behind_more, behind_none, front_ended, front_more, parts_len, progress_front, progress_more, ended_stays}
 
 no_octet : (xs : List ℕ) → length xs ≡ 0 → xs ≡ []
 no_octet [] h = refl
@@ -39,6 +40,7 @@ counted_ended s near far piece rest room count parts behind_is is within counts 
     record {
       count_is = omega (arith, ap (λ (x : List ℕ). length x) whole);
       within = omega arith;
+      inside = omega (arith, ap (λ (x : List ℕ). length x) parts, length-append near far);
       now_is = sym (ap (λ (x : List ℕ). progress s x) parts ∙ (progress_more s near far ∙ (ap (λ (t : Progress). progress t far) (sym is) ∙ ended_stays far)));
       deep = omega arith;
     }
@@ -49,7 +51,7 @@ counted_all : (s now : Progress) (piece rest : List ℕ) (room count : ℕ) → 
 counted_all s now piece rest room count behind_is is within counts deep =
     let sizes = parts_len s piece in
     let rests = ap (λ (x : List ℕ). length x) behind_is in
-    record { count_is = omega arith; within = omega arith; now_is = is; deep = omega arith }
+    record { count_is = omega arith; within = omega arith; inside = omega arith; now_is = is; deep = omega arith }
 
 pub counted : (s now : Progress) (near far piece rest : List ℕ) (room count : ℕ) → piece ≡ near ++ far → rest ≡ behind s near → now ≡ progress s near
     → (is_inside now ≡ true → length far ≡ 0) → length near ≤ room → count ≡ length near - length rest → depth_of now + length rest ≤ depth_of s + length near → IsCounted s room piece count now
@@ -84,3 +86,30 @@ pub held_len : (s : Progress) (held piece : List ℕ) → s ≡ progress start h
 held_len s held piece come one =
     ap (λ (x : List ℕ). length x) (front_more start held piece one ∙ ap (λ (t : Progress). held ++ front t piece) (sym come))
     ∙ length-append held (front s piece)
+
+-- ---- octets of a piece are pushed
+pub pushed_come : (s t : Progress) (held piece new : List ℕ) (n : ℕ) → new ≡ held ++ take n piece → s ≡ progress start held → n ≡ length (front s piece) → t ≡ progress s piece
+    → t ≡ progress start new
+pushed_come s t held piece new n is come count now = held_come s t held piece n come count now ∙ ap (λ (x : List ℕ). progress start x) (sym is)
+
+pub pushed_one : (s : Progress) (held piece new : List ℕ) (n : ℕ) → new ≡ held ++ take n piece → s ≡ progress start held → behind start held ≡ [] → n ≡ length (front s piece)
+    → behind start new ≡ []
+pushed_one s held piece new n is come one count = ap (λ (x : List ℕ). behind start x) is ∙ held_one s held piece n come one count
+
+pub pushed_len : (held piece new : List ℕ) (n : ℕ) → new ≡ held ++ take n piece → n ≤ length piece → length new ≡ length held + n
+pushed_len held piece new n is within = omega (arith, ap (λ (x : List ℕ). length x) is, length-append held (take n piece), length-take n piece)
+
+pub takes_piece : (s : Progress) (held piece new : List ℕ) (limit passed n : ℕ) → s ≡ progress start held → behind start held ≡ [] → n ≡ length (front s piece)
+    → n ≤ limit_after limit passed - length held → length held ≤ limit_after limit passed → new ≡ held ++ take n piece → TakesPiece limit passed held piece n new
+takes_piece s held piece new limit passed n come one count room short is =
+    let len = held_len s held piece come one in
+    record { within = omega arith; count = omega arith; octets = is }
+
+pub not_taken : (s : Progress) (held piece : List ℕ) (most room : ℕ) → s ≡ progress start held → behind start held ≡ [] → room ≡ most - length held
+    → room < length (front s piece) → most < entry_len (held ++ piece)
+not_taken s held piece most room come one is long = let len = held_len s held piece come one in omega arith
+
+pub pushes_some : (s : Progress) (held piece : List ℕ) (n : ℕ) → s ≡ progress start held → n ≡ length (front s piece) → 0 < length piece → (HasEnd held → ⊥) → 0 < n
+pushes_some Ended held piece n come count some on = absurd (on (sym come))
+pushes_some (Inside m d) held [] n come count some on = absurd (omega arith)
+pushes_some (Inside m d) held (c ∷ cs) n come count some on = omega arith

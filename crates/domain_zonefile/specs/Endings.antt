@@ -75,5 +75,6 @@ is_inside (Inside m d) = true
 pub record IsCounted (before : Progress) (room : ℕ) (piece : List ℕ) (count : ℕ) (now : Progress) : Type 0 where
   pub count_is : count ≡ length (front before piece)
   pub within : count ≤ room
+  pub inside : count ≤ length piece
   pub now_is : now ≡ progress before piece
   pub deep : depth_of now ≤ depth_of before + count

@@ -1,5 +1,5 @@
 //! The entries of a text that arrives in pieces.
-ghost use Rattle.std.specs.Prelude.{◌≡◌, ◌<◌, ◌≤◌, ◌+◌, ◌-◌, ◌^◌, [], length, take, MatchOption};
+ghost use Rattle.std.specs.Prelude.{◌≡◌, ◌<◌, ◌≤◌, ◌+◌, ◌-◌, ◌^◌, [], ◌++◌, length, take, IfErr, MatchOption, OnOk, OnErr};
 ghost use Rattle.domain_zonefile.specs.Endings.{behind, depth_of, front, is_inside, IsCounted, progress, start};
 ghost use Rattle.domain_zonefile.specs.Places.{place_behind};
 
@@ -56,6 +56,20 @@ fn count_octets(before: Progress, room: usize, piece: &[u8]) -> Option<Counted>
     })
 }
 
+/// Appends the first octets of a piece, or nothing.
+fn hold(held: &mut Vec<u8>, piece: &[u8], count: usize) -> Result<(), PieceError>
+    requires { count ≤ length piece.now }
+    ensures ok { OnOk result (held.new.items ≡ held.old.items ++ take count piece.now) }
+    ensures err { IfErr result (λ e. e ≡ PieceError.Memory) }
+    ensures unchanged { OnErr result (held.new.items ≡ held.old.items) }
+{
+    let (near, _) = piece.split_at(count);
+    match held.extend_from_slice(near) {
+        Ok(()) => Ok(()),
+        Err(_) => Err(PieceError::Memory),
+    }
+}
+
 /// Returns the place after octets of which the first is at this place.
 fn place_after_octets(from: Place, octets: &[u8]) -> Place
     requires line { from.line + length octets.now < 2 ^ 64 }
@@ -106,7 +120,7 @@ pub struct EntryPieces {
 }
 
 impl EntryPieces {
-    ghost use Rattle.std.specs.Prelude.{ℕ, List, ⊥, ◌++◌, IfOk, IfErr, OnOk, OnErr, option_map};
+    ghost use Rattle.std.specs.Prelude.{ℕ, List, IfOk, option_map};
     ghost use Rattle.domain_zonefile.specs.Endings.{HasEnd};
     ghost use Rattle.domain_zonefile.specs.Meanings.{setting_of};
     ghost use Rattle.domain_zonefile.specs.Pieces.{GivesEntry, GivesLast, held_octets, HoldsOne, IsUnchanged, limit_after, most_octets, passed_octets, Passes, PassesIfSome, PieceNotTaken, pieces_place, pieces_setting, TakesPiece};
@@ -180,12 +194,13 @@ impl EntryPieces {
         let Some(counted) = count_octets(self.now, self.room(), piece) else {
             return Err(PieceError::TooLong(self.place));
         };
-        let (near, _) = piece.split_at(counted.count);
-        if let Err(_) = self.held.extend_from_slice(near) {
-            return Err(PieceError::Memory);
+        match hold(&mut self.held, piece, counted.count) {
+            Ok(()) => {
+                self.now = counted.now;
+                Ok(counted.count)
+            }
+            Err(error) => Err(error),
         }
-        self.now = counted.now;
-        Ok(counted.count)
     }
 
     /// Returns line and column of a fault of the entry that is held.
