@@ -265,3 +265,18 @@ def answers(apex, records, questions):
         said += f"; sets={len(owned)} has={int(rtype in owned)} {header_of(answer)} {answer}"
         said += sections_as_text(answer, sections)
     return said
+
+
+def updated(apex, records, removed):
+    """The line of answers to a line `update`. What is removed is an owner, with a type and data or without."""
+    zone = Zone(apex)
+    said = "".join(zone.insert(*it) for it in records)
+    if not (zone.is_zone() and zone.wildcards_fit()):
+        return f"{said} no zone"
+    kept = [(it.owner, rtype, ttl, data) for rtype, it in zone.rrsets() for ttl, data in it.records]
+    said += " "
+    for owner, *rest in removed:
+        gone = [it for it in kept if [it[0].lower(), it[1], it[3]][: 1 + len(rest)] == [owner.lower(), *rest]]
+        kept = [it for it in kept if it not in gone]
+        said += "+" if gone else "-"
+    return said + answers(apex, kept, []).lstrip(".")

@@ -414,6 +414,54 @@ DENIED = [
     ),
 ]
 
+# What a zone has without some of its records: which RFC says so, the apex, records beside an SOA and a name server at
+# it, what is removed, and what comes of it.
+UPDATED = [
+    (
+        "RFC 2136, 2.5.2 to 2.5.4: an RRset, all of a name, a record; what isn't there changes nothing",
+        "t.",
+        [
+            ("a.t.", A, address("192.0.2.1")),
+            ("a.t.", A, address("192.0.2.2")),
+            ("a.t.", TXT, text("a")),
+            ("b.a.t.", TXT, text("b")),
+        ],
+        [
+            ([], " t./2/3600/1 t./6/3600/1 a.t./1/3600/2 a.t./16/3600/1 b.a.t./16/3600/1"),
+            ([("A.T.", A)], "+ t./2/3600/1 t./6/3600/1 a.t./16/3600/1 b.a.t./16/3600/1"),
+            ([("a.t.",)], "+ t./2/3600/1 t./6/3600/1 b.a.t./16/3600/1"),
+            ([("a.T.", A, address("192.0.2.2"))], "+ t./2/3600/1 t./6/3600/1 a.t./1/3600/1 a.t./16/3600/1 b.a.t./16/3600/1"),
+            (
+                [("a.t.", A, address("192.0.2.2")), ("a.t.", A, address("192.0.2.1")), ("a.t.", A)],
+                "++- t./2/3600/1 t./6/3600/1 a.t./16/3600/1 b.a.t./16/3600/1",
+            ),
+            (
+                [("a.t.", AAAA), ("c.t.",), ("a.t.", A, address("192.0.2.3")), ("a.t.", TXT, text("A")), ("t.", A), ("b.t.", TXT)],
+                "------ t./2/3600/1 t./6/3600/1 a.t./1/3600/2 a.t./16/3600/1 b.a.t./16/3600/1",
+            ),
+            ([("t.", SOA)], "+ no zone"),
+            ([("t.", NS, name("NS.example.net."))], "- t./2/3600/1 t./6/3600/1 a.t./1/3600/2 a.t./16/3600/1 b.a.t./16/3600/1"),
+            ([("t.", NS, name("ns.example.net."))], "+ no zone"),
+            ([("T.",)], "+ no zone"),
+        ],
+    ),
+    (
+        "RFC 4034, 3: RRSIG records of a zone that is made of another one keep their TTLs",
+        "t.",
+        SIGNED,
+        [
+            (
+                [("a.t.", NSEC), ("a.t.", RRSIG, rrsig(NSEC, 2, 60, "t."))],
+                "++ t./2/3600/1 t./6/3600/1 a.t./1/300/1 a.t./46/300/1 *.w.t./1/30/1 *.w.t./16/900/1 *.w.t./46/30+30+900/3",
+            ),
+            (
+                [("*.w.t.",)],
+                "+ t./2/3600/1 t./6/3600/1 a.t./1/300/1 a.t./46/300+60/2 a.t./47/60/1",
+            ),
+        ],
+    ),
+]
+
 # What the drawn zones are made of.
 LABELS = ["a", "b", "c", "*", "A"]
 APEXES = [".", "z.", "Z.y."]
@@ -576,6 +624,18 @@ def denied_lines():
             yield "zones with NSEC records that are drawn", line_of(apex, records, questions, "denial"), said
 
 
+def updated_lines():
+    """The same of zones without some of their records."""
+    for topic, apex, rows, changes in UPDATED:
+        records = records_of(apex, rows)
+        for removed, wanted in changes:
+            said = second_zone.updated(apex, records, removed)
+            if said != "." * len(records) + " " + wanted:
+                sys.exit(f"{topic}: {removed}: {said}, not {wanted}")
+            gone = ["/".join([owner, *map(str, rest[:1]), *(it.hex() for it in rest[1:])]) for owner, *rest in removed]
+            yield topic, f"{line_of(apex, records, [], 'update').removesuffix(' -')} {';'.join(gone) or '-'}", said
+
+
 def headed(lines):
     """Lines with their answers, each topic above its lines as a heading, which is its own answer."""
     heading = None
@@ -588,4 +648,4 @@ def headed(lines):
 
 def rows():
     """Each heading and each line, with its answer."""
-    return [*headed([*told_lines(), *drawn_lines(), *denied_lines()])]
+    return [*headed([*told_lines(), *drawn_lines(), *denied_lines(), *updated_lines()])]

@@ -12,12 +12,14 @@ mod records;
 mod responses;
 mod sections;
 mod text;
+mod updates;
 mod zones;
 
 use crate::data::{put_place, put_read, put_shown, put_words};
 use crate::denials::put_denials;
 use crate::entries::{put_entries, put_ttl};
 use crate::responses::put_responses;
+use crate::updates::put_update;
 use crate::zones::put_zone;
 use conformance_labels::{Answer, Fail, Table, answer_table, is, split_once};
 use std::process::ExitCode;
@@ -45,6 +47,8 @@ impl Table for ZoneTable {
             put_zone(out, line);
         } else if is(word, b"denial") {
             put_denials(out, line);
+        } else if is(word, b"update") {
+            put_update(out, line);
         } else {
             out.fail(Fail::Bad);
         }

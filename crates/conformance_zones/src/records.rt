@@ -6,7 +6,7 @@ use domain_name::Name;
 use domain_zone::{BuildError, InsertError, Owner, Zone, ZoneBuilder};
 
 /// A name that is written as text. If it is none, that is noted.
-fn name_of(out: &Answer, text: &[u8]) -> Option<Owner> {
+pub fn name_of(out: &Answer, text: &[u8]) -> Option<Owner> {
     let read = match str::from_utf8(text) {
         Ok(text) => Name::vec_from_str(out.alloc(), text).ok(),
         Err(_) => None,

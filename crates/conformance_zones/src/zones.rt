@@ -17,7 +17,7 @@ pub fn put_zone(out: &Answer, line: &[u8]) {
     }
 }
 
-/// The zone of the fields APEX RECORDS QUESTIONS, with a sign for each record. If it is none, or memory failed, that
+/// The zone of the fields APEX and RECORDS, of which there are four with the word, with a sign for each record. If it is none, or memory failed, that
 /// is noted.
 pub fn zone_of(out: &Answer, fields: &Fields<'_>) -> Option<Zone> {
     fields.expect(4, out);
@@ -46,11 +46,16 @@ fn put_inserted(out: &Answer, builder: &mut ZoneBuilder, record: &[u8]) {
     }
 }
 
-/// Appends the RRsets of a zone, and its answers to questions, `NAME/TYPE` each.
-fn put_answers(out: &Answer, zone: &Zone, questions: &[u8]) {
+/// Appends the RRsets of a zone.
+pub fn put_rrsets(out: &Answer, zone: &Zone) {
     for set in zone.rrsets() {
         put_rrset(out, b" ", set);
     }
+}
+
+/// Appends the RRsets of a zone, and its answers to questions, `NAME/TYPE` each.
+fn put_answers(out: &Answer, zone: &Zone, questions: &[u8]) {
+    put_rrsets(out, zone);
     if is(questions, b"-") {
         return;
     }

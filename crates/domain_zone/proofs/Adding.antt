@@ -41,13 +41,13 @@ map-remove f xs i =
 -- ---- which elements a list has after an edit
 
 module _ {X : Type 0} where
-  head_of : (x : X) (xs : List X) → Contains (x ∷ xs) x
+  pub head_of : (x : X) (xs : List X) → Contains (x ∷ xs) x
   head_of x xs = (0, omega arith, refl)
 
-  rest_of : (x y : X) (xs : List X) → Contains xs y → Contains (x ∷ xs) y
+  pub rest_of : (x y : X) (xs : List X) → Contains xs y → Contains (x ∷ xs) y
   rest_of x y xs c = Contains-append_right (x ∷ []) xs y c
 
-  cases_of : (x y : X) (xs : List X) → Contains (x ∷ xs) y → (x ≡ y) ⊎ Contains xs y
+  pub cases_of : (x y : X) (xs : List X) → Contains (x ∷ xs) y → (x ≡ y) ⊎ Contains xs y
   cases_of x y xs c = ⊎_elim (λ a. inl (only_one x y a)) (λ b. inr b) (Contains-append_cases (x ∷ []) xs y c)
 
   pub inserted_new : (xs : List X) (i : ℕ) (x : X) → Contains (insert xs i x) x

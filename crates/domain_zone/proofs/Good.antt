@@ -34,7 +34,7 @@ first_same x y xs ys e = cc
 nil_no_cons : {A : Type 0} (x : A) (xs : List A) → [] ≡ x ∷ xs → ⊥
 nil_no_cons x xs e = cc
 
-less_no_equal : Less ≡ Equal → ⊥
+pub less_no_equal : Less ≡ Equal → ⊥
 less_no_equal e = cc
 
 -- ---- two RRsets of one owner and one type
@@ -132,7 +132,7 @@ module _ (z : Zone) (o : IsCanonical z) (w : IsZone z) (s : RRset) (h : Contains
       let at : IsAt z (source_of_synthesis e.0) s.rtype s = (h, e.1, refl) in
       e.1 ∙ w.wildcards e.0 s.rtype (s, at) k
 
-  sound_at : IsSound z s
+  pub sound_at : IsSound z s
   sound_at = record {
     inside = (All-contains (λ (r : RRset). IsAbsoluteName r.owner × EndsWith r.owner z.apex) z.rrsets s w.names h).1;
     kind = All-contains (λ (r : RRset). IsDataType r.rtype × (r.rtype ≢ NSEC3)) z.rrsets s w.types h;
@@ -146,7 +146,7 @@ module _ (z : Zone) (o : IsCanonical z) (w : IsZone z) (s : RRset) (h : Contains
   inside_of : (r : RRset) → Contains z.rrsets r → EndsWith r.owner z.apex
   inside_of r c = (All-contains (λ (r : RRset). IsAbsoluteName r.owner × EndsWith r.owner z.apex) z.rrsets r w.names c).1
 
-  fitting_at : IsFitting z s
+  pub fitting_at : IsFitting z s
   fitting_at = record {
     alone = λ c. w.cname_alone s.owner s.rtype c (s, (h, refl, refl));
     leaf = λ e r c f. w.below_dname s.owner r.owner (s, here DNAME e) (inside_of r c, (r, c, ends_itself r.owner)) f;

@@ -1,4 +1,5 @@
 pub mod Ending
+pub mod Copying
 pub mod Deciding
 pub mod Nodes
 pub mod Total
@@ -13,14 +14,17 @@ pub mod Adding
 pub mod Ascending
 pub mod Chains
 pub mod Enclosing
+pub mod Finishing
 pub mod FirstCuts
 pub mod Good
+pub mod Halving
 pub mod Had
 pub mod Leading
 pub mod Leaves
 pub mod Near
 pub mod Neighbours
 pub mod Owned
+pub mod Retained
 pub mod SettingCuts
 pub mod Sources
 pub mod Substituting

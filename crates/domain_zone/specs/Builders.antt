@@ -12,7 +12,7 @@ use Rattle.domain_zone.specs.declared.building.BuildError.TheVariants as build
 use Rattle.domain_zone.specs.declared.building.InsertError.{InsertError}
 use Rattle.domain_zone.specs.declared.building.InsertError.TheVariants as insert
 use Rattle.domain_zone.specs.declared.building.ZoneBuilder.{ZoneBuilder}
-use Rattle.domain_zone.specs.Zone.{Zone, NSEC3, IsDataType}
+use Rattle.domain_zone.specs.Zone.{Zone, NSEC3, IsDataType, IsZone}
 
 -- The records that were inserted, one after another.
 abbrev pub inserted : ZoneBuilder → List Inserted
@@ -37,6 +37,10 @@ IsRefused b n t c insert.OtherClass = class_number c ≢ class_number (builder_c
 IsRefused b n t c insert.OutOfZone = EndsWith n (builder_apex b) → ⊥
 IsRefused b n t c insert.NotDataType = IsDataType t × (t ≢ NSEC3) → ⊥
 IsRefused b n t c insert.Memory = MayBeInserted b n t c
+
+-- The records that were inserted are a zone: RRsets that hold them, in canonical order, are one.
+abbrev pub MakesZone : ZoneBuilder → Type 0
+MakesZone b = (z : Zone) × (z.apex ≡ builder_apex b) × Holds (inserted b) z.rrsets × IsCanonical z × IsZone z
 
 -- The records that were inserted make no zone: the RRsets that hold them, in canonical order, have this fault.
 abbrev pub MakesNoZone : ZoneBuilder → BuildError → Type 0

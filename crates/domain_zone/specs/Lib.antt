@@ -2,6 +2,7 @@ pub mod Zone
 pub mod Answers
 pub mod Laws
 pub mod Sorted
+pub mod Searches
 pub mod NeighbourLaws
 pub mod Views
 pub mod Examples
@@ -11,9 +12,11 @@ pub mod Cuts
 pub mod Entries
 pub mod ErrorText
 pub mod Faults
+pub mod FinishLaws
 pub mod Headers
 pub mod Kept
 pub mod Missing
 pub mod Neighbours
 pub mod Outcomes
 pub mod Records
+pub mod Updating

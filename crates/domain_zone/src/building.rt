@@ -6,8 +6,10 @@ use crate::fault::ZoneFault;
 use crate::kept::Zone;
 use crate::merging::merged;
 use crate::names::Owner;
+use crate::updating::{is_owned_by, is_record, is_record_of, records_of};
 use domain_header::Class;
-use std::alloc::Global;
+use domain_name::Name;
+use std::alloc::{AllocError, Global};
 use std::error::Error;
 use std::fmt;
 
@@ -87,13 +89,14 @@ pub struct ZoneBuilder {
 }
 
 impl ZoneBuilder {
-    ghost use Rattle.std.specs.Prelude.{◌≡◌, [], ◌∷◌, ◌++◌, Err, IfOk, IfErr, OnOk, OnErr};
+    ghost use Rattle.std.specs.Prelude.{◌≡◌, ◌↔◌, [], ◌∷◌, ◌++◌, Err, IsTrue, IsOk, IfOk, IfErr, OnOk, OnErr};
     ghost use Rattle.domain_header.specs.Values.{class_number};
     ghost use Rattle.domain_list.specs.Ends.{EndsWith};
     ghost use Rattle.domain_name.specs.Names.{name_labels};
-    ghost use Rattle.domain_zone.specs.Builders.{inserted, builder_apex, builder_class, IsRefused, MakesNoZone, MayBeInserted};
+    ghost use Rattle.domain_zone.specs.Builders.{inserted, builder_apex, builder_class, IsRefused, MakesNoZone, MakesZone, MayBeInserted};
     ghost use Rattle.domain_zone.specs.Building.{Inserted, Holds};
     ghost use Rattle.domain_zone.specs.Kept.{zone_view, zone_class};
+    ghost use Rattle.domain_zone.specs.Updating.{records_of, IsOwnedBy, IsRecord, IsRecordOf, Removes, HasSome};
     ghost use Rattle.domain_zone.specs.declared.building.InsertError.TheVariants.{OtherClass, OutOfZone, NotDataType};
 
     /// A builder of a zone of this class at this apex, without records.
@@ -107,6 +110,81 @@ impl ZoneBuilder {
             apex,
             entries: Vec::new(alloc),
         }
+    }
+
+    /// Returns a builder of a zone like this one: of its class, at its apex, with its records inserted.
+    ///
+    /// Each record has the TTL that [`record_ttl`](crate::ttl::record_ttl) returns. The zone is copied and stays as it
+    /// is, so it answers while another one is made of it (RFC 2136, 3.7).
+    ///
+    /// # Errors
+    ///
+    /// Returns `AllocError` only if an allocation failed.
+    pub fn from_zone(alloc: Global, zone: &Zone) -> Result<ZoneBuilder, AllocError>
+        ensures inserted { IfOk result
+            (λ builder. inserted builder ≡ records_of (zone_view zone.now).rrsets) }
+        ensures apex { IfOk result
+            (λ builder. builder_apex builder ≡ (zone_view zone.now).apex) }
+        ensures class { IfOk result (λ builder. builder_class builder ≡ zone_class zone.now) }
+    {
+        let Ok(apex) = zone.apex().clone(alloc) else {
+            return Err(AllocError);
+        };
+        let entries = records_of(alloc, zone.rrsets())?;
+        Ok(ZoneBuilder {
+            class: zone.class(),
+            apex,
+            entries,
+        })
+    }
+
+    /// Removes the records of an owner, whose case is ignored, and a type: an RRset (RFC 2136, 2.5.2).
+    ///
+    /// Returns whether there were any. All others stay.
+    pub fn remove_rrset(&mut self, owner: &Name<&[u8]>, rtype: u16) -> bool
+        ensures removed { Removes (IsRecordOf (name_labels owner.now) rtype) (inserted self.old)
+            (inserted self.new) }
+        ensures found { IsTrue result
+            ↔ HasSome (IsRecordOf (name_labels owner.now) rtype) (inserted self.old) }
+        ensures apex { builder_apex self.new ≡ builder_apex self.old }
+        ensures class { builder_class self.new ≡ builder_class self.old }
+    {
+        let before = self.entries.len();
+        self.entries.retain(|entry| !is_record_of(entry, owner, rtype));
+        self.entries.len() < before
+    }
+
+    /// Removes the records of an owner, whose case is ignored, of all types (RFC 2136, 2.5.3).
+    ///
+    /// Returns whether there were any. All others stay, those below the owner too.
+    pub fn remove_name(&mut self, owner: &Name<&[u8]>) -> bool
+        ensures removed { Removes (IsOwnedBy (name_labels owner.now)) (inserted self.old)
+            (inserted self.new) }
+        ensures found { IsTrue result
+            ↔ HasSome (IsOwnedBy (name_labels owner.now)) (inserted self.old) }
+        ensures apex { builder_apex self.new ≡ builder_apex self.old }
+        ensures class { builder_class self.new ≡ builder_class self.old }
+    {
+        let before = self.entries.len();
+        self.entries.retain(|entry| !is_owned_by(entry, owner));
+        self.entries.len() < before
+    }
+
+    /// Removes the record of an owner, whose case is ignored, and a type with these data (RFC 2136, 2.5.4), whatever
+    /// its TTL.
+    ///
+    /// Data are compared as octets. Returns whether there was one. All others stay.
+    pub fn remove(&mut self, owner: &Name<&[u8]>, rtype: u16, octets: &[u8]) -> bool
+        ensures removed { Removes (IsRecord (name_labels owner.now) rtype octets.now)
+            (inserted self.old) (inserted self.new) }
+        ensures found { IsTrue result
+            ↔ HasSome (IsRecord (name_labels owner.now) rtype octets.now) (inserted self.old) }
+        ensures apex { builder_apex self.new ≡ builder_apex self.old }
+        ensures class { builder_class self.new ≡ builder_class self.old }
+    {
+        let before = self.entries.len();
+        self.entries.retain(|entry| !is_record(entry, owner, rtype, octets));
+        self.entries.len() < before
     }
 
     /// Inserts a record.
@@ -180,6 +258,7 @@ impl ZoneBuilder {
         ensures holds { IfOk result (λ zone. Holds (inserted self) (zone_view zone).rrsets) }
         ensures apex { IfOk result (λ zone. (zone_view zone).apex ≡ builder_apex self) }
         ensures class { IfOk result (λ zone. zone_class zone ≡ builder_class self) }
+        ensures accepts { IsOk result → MakesZone self }
         ensures err { IfErr result (MakesNoZone self) }
     {
         let ZoneBuilder {

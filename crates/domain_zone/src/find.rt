@@ -1,18 +1,22 @@
 //! What a zone has, by binary search: names at and below another are adjacent, and it is the first of them.
-ghost use Rattle.std.specs.Prelude.{◌≡◌, ◌≤◌, IsTrue, ◌↔◌, MatchOption, ℕ, List, length};
+ghost use Rattle.std.specs.Prelude.{◌≡◌, ◌+◌, ◌<◌, ◌≤◌, IsTrue, ◌↔◌, MatchOption, ℕ, List, length};
 ghost use Rattle.std.specs.List.{Contains};
 ghost use Rattle.domain_list.specs.Ends.{EndsWith};
 ghost use Rattle.domain_list.specs.Order.{SameLabels};
+ghost use Rattle.domain_zone.specs.Searches.{IsSearched};
 ghost use Rattle.domain_zone.specs.Sorted.{ComesBefore, IsSorted, IsPlace};
 ghost use Rattle.domain_zone.specs.Views.{rrset, zone_of};
 ghost use Rattle.domain_zone.specs.Zone.{RRset, IsAt, HasType, OwnsRecords};
 
+use crate::comparisons::Comparisons;
 use crate::zone::{Rrset, ZoneRecords};
 use domain_list::ToLabelIter;
 use domain_list::comparing::{eq_names, order_names};
 use domain_list::ends::ends_with_labels;
 use domain_list::laws::order_laws;
 use std::cmp::Ordering;
+use std::marker::Brand;
+use std::sync::ledger::{Blank, Ledger};
 
 /// Whether an RRset comes before what a name has of a type.
 pub(crate) fn comes_before<'a, N: ToLabelIter<'a>, M: ToLabelIter<'a>>(
@@ -29,7 +33,24 @@ pub(crate) fn comes_before<'a, N: ToLabelIter<'a>, M: ToLabelIter<'a>>(
     }
 }
 
+/// Whether an RRset comes before what a name has of a type, by one comparison of names, which is counted.
+fn comes_before_counted<'a, N: ToLabelIter<'a>, M: ToLabelIter<'a>, L: Ledger>(
+    set: &'a Rrset<N>,
+    name: &'a M,
+    rtype: u16,
+    comparisons: &mut Comparisons<L>,
+) -> bool
+    ensures before { IsTrue result
+        ↔ ComesBefore (rrset N.labels set.now) (M.labels name.now) rtype }
+    ensures counted { comparisons.new ≡ comparisons.old + 1 }
+{
+    comparisons.count();
+    comes_before(set, name, rtype)
+}
+
 /// How many RRsets come before what a name has of a type. They are in canonical order, and are searched by halves.
+///
+/// `place_of_counted` bounds the comparisons of names: of n RRsets it makes at most k, for each k with n < 2<sup>k</sup>.
 pub fn place_of<'a, N: ToLabelIter<'a>, M: ToLabelIter<'a>>(
     zone: &'a ZoneRecords<N>,
     name: &'a M,
@@ -39,12 +60,46 @@ pub fn place_of<'a, N: ToLabelIter<'a>, M: ToLabelIter<'a>>(
     ensures within { result ≤ length (zone_of N.labels zone.now).rrsets }
     ensures place { IsPlace (zone_of N.labels zone.now) (M.labels name.now) rtype result }
 {
+    place_of_with::<N, M, Brand>(zone, name, rtype, Blank::new(1))
+}
+
+/// `place_of_counted` with a new count, which is dropped: only a function that is generic over ledgers can begin one.
+fn place_of_with<'a, N: ToLabelIter<'a>, M: ToLabelIter<'a>, L: Ledger>(
+    zone: &'a ZoneRecords<N>,
+    name: &'a M,
+    rtype: u16,
+    blank: Blank,
+) -> usize
+    requires sorted { IsSorted (zone_of N.labels zone.now) }
+    requires ledger { blank.name ≡ L.name }
+    requires parts { blank.parts ≡ L.parts }
+    requires some { 0 < blank.parts }
+    ensures within { result ≤ length (zone_of N.labels zone.now).rrsets }
+    ensures place { IsPlace (zone_of N.labels zone.now) (M.labels name.now) rtype result }
+{
+    place_of_counted(zone, name, rtype, &mut Comparisons::<L>::new(blank))
+}
+
+/// `place_of`, which counts each comparison of names in `comparisons`. Contracts alone see the number.
+pub fn place_of_counted<'a, N: ToLabelIter<'a>, M: ToLabelIter<'a>, L: Ledger>(
+    zone: &'a ZoneRecords<N>,
+    name: &'a M,
+    rtype: u16,
+    comparisons: &mut Comparisons<L>,
+) -> usize
+    requires { IsSorted (zone_of N.labels zone.now) }
+    ensures within { result ≤ length (zone_of N.labels zone.now).rrsets }
+    ensures place { IsPlace (zone_of N.labels zone.now) (M.labels name.now) rtype result }
+    ensures few { IsSearched 1 (length (zone_of N.labels zone.now).rrsets) comparisons.old
+        comparisons.new }
+{
     let sets = zone.sets.as_slice();
     let mut low = 0;
     let mut high = sets.len();
     'halves: while low < high {
         let middle = low + (high - low) / 2;
-        if comes_before(&sets[middle], name, rtype) {
+        let set = &sets[middle];
+        if comes_before_counted(set, name, rtype, comparisons) {
             low = middle + 1;
         } else {
             high = middle;

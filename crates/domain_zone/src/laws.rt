@@ -1,5 +1,6 @@
 //! Laws of the definitions, proved as the contracts of calls that do nothing.
 ghost use Rattle.domain_zone.specs.Examples.{Rfc1034Rows, Rfc4592Rows};
+ghost use Rattle.domain_zone.specs.FinishLaws.{RefusedIsNoZone};
 ghost use Rattle.domain_zone.specs.Laws.{HasOneOutcome, NothingBelowNameError};
 ghost use Rattle.domain_zone.specs.NeighbourLaws.{NeighboursTellEncloser, PredecessorTellsCut};
 
@@ -18,6 +19,16 @@ pub fn answer_laws()
 pub fn neighbour_laws()
     ensures encloser { NeighboursTellEncloser }
     ensures cut { PredecessorTellsCut }
+{
+    order_laws();
+}
+
+/// What `finish` of a `ZoneBuilder` tells of the records that were inserted.
+///
+/// Records with a fault are no zone, whatever RRsets hold them. So `finish` returns a zone exactly where the records
+/// are one, if no allocation fails.
+pub fn finish_laws()
+    ensures { RefusedIsNoZone }
 {
     order_laws();
 }

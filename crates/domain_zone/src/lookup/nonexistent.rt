@@ -5,11 +5,13 @@ ghost use Rattle.domain_name.specs.Names.{name_labels};
 ghost use Rattle.domain_zone.specs.Outcomes.{outcome_of, IsRedirection};
 ghost use Rattle.domain_zone.specs.Records.{records_view, set_view};
 ghost use Rattle.domain_zone.specs.Answers.{Answers, IsAuthoritative};
+ghost use Rattle.domain_zone.specs.Searches.{IsSearched};
 ghost use Rattle.domain_zone.specs.Sorted.{IsSorted, IsPlace, IsLastBefore};
 ghost use Rattle.domain_zone.specs.Zone.{IsZone, Exists, HasType, IsAt};
 ghost use Rattle.domain_zone.specs.Zone.{IsOneName, target, DNAME};
 
-use crate::find::place_of;
+use crate::comparisons::Comparisons;
+use crate::find::place_of_counted;
 use crate::lookup::encloser::{closest_encloser, is_below_at};
 use crate::lookup::outcome::Answer;
 use crate::names::Owner;
@@ -19,6 +21,7 @@ use crate::zone::{Rrset, ZoneRecords};
 use domain_list::Chain;
 use domain_list::laws::order_laws;
 use domain_name::{Name, RelativeName};
+use std::sync::ledger::Ledger;
 
 /// Where a CNAME or a DNAME leads.
 fn target_of<'a>(alias: &'a Rrset<Owner>) -> Name<&'a [u8]>
@@ -67,11 +70,12 @@ fn dname_above<'z: 'a, 'a>(
 ///
 /// A DNAME above the name has no records below its owner, so it is right before the place of the name. The RRsets are
 /// searched by halves once, for the source of synthesis.
-pub(crate) fn lookup_nonexistent<'a>(
+pub(crate) fn lookup_nonexistent<'a, L: Ledger>(
     records: &'a ZoneRecords<Owner>,
     place: usize,
     name: &'a Name<&'a [u8]>,
     rtype: u16,
+    comparisons: &mut Comparisons<L>,
 ) -> Answer<'a>
     requires zone { IsZone (records_view records.now) }
     requires sorted { IsSorted (records_view records.now) }
@@ -79,7 +83,10 @@ pub(crate) fn lookup_nonexistent<'a>(
     requires place { IsPlace (records_view records.now) (name_labels name.now) 0 place }
     requires ours { IsAuthoritative (records_view records.now) (name_labels name.now) rtype }
     requires missing { Exists (records_view records.now) (name_labels name.now) → ⊥ }
-    ensures { Answers (records_view records.now) (name_labels name.now) rtype (outcome_of result) }
+    ensures answers { Answers (records_view records.now) (name_labels name.now) rtype
+        (outcome_of result) }
+    ensures few { IsSearched 1 (length (records_view records.now).rrsets) comparisons.old
+        comparisons.new }
 {
     order_laws();
     let encloser = closest_encloser(records, place, *name);
@@ -89,7 +96,7 @@ pub(crate) fn lookup_nonexistent<'a>(
     let Ok(source) = Chain::new(RelativeName::wildcard_ref(), encloser) else {
         return Answer::NameError;
     };
-    let at = place_of(records, &source, 0);
+    let at = place_of_counted(records, &source, 0, comparisons);
     if !is_below_at(records, at, &source) {
         return Answer::NameError;
     }

@@ -1,0 +1,12 @@
+use Rattle.std.proofs.Common.{rules}
+use Rattle.domain_name.specs.Names.{name_labels}
+use Rattle.domain_zone.specs.Entries.{entry_view}
+use Rattle.domain_zone.specs.Updating.{IsOwnedBy}
+use Rattle.domain_zone.proofs.Retained.{retained}
+use Rattle.domain_zone.proofs.building.ZoneBuilder.remove_name.Goals as goal
+
+pub returns-clause-removed : goal.returns-clause-removed
+returns-clause-removed c = (retained _ entry_view (IsOwnedBy (name_labels c.args.owner.now)) _ (λ x b g k. search rules) _ _ c.retain.ensures.filtered).0
+
+pub returns-clause-found : goal.returns-clause-found
+returns-clause-found c = ?
