@@ -1,6 +1,6 @@
-"""A second reader of zones, written from RFC 1034 (4.2.1, 4.3.2), 1035 (3.3.13), 2181 (5, 6, 10.1), 2308 (3), 4034
-(3, 3.1.1, 6.1), 4035 (2.2, 2.4, 2.5, 3.1.4.1), 4592, 5155 (7.2.8), 6672, 6895, 8482 (4.1) and 9471 (3). It keeps a
-zone as a tree of labels and goes down from the apex."""
+"""A second reader of zones, written from RFC 1034 (4.2.1, 4.3.2), 1035 (3.3.13), 2136 (2.5), 2181 (5, 6, 10.1), 2308
+(3), 4034 (3, 3.1.1, 6.1), 4035 (2.2, 2.4, 2.5, 3.1.4.1), 4592, 5155 (7.2.8), 6672, 6895, 8482 (4.1) and 9471 (3). It
+keeps a zone as a tree of labels and goes down from the apex."""
 
 A, NS, CNAME, SOA, KEY, AAAA, DNAME, OPT, DS, RRSIG, NSEC, NSEC3, ANY = 1, 2, 5, 6, 25, 28, 39, 41, 43, 46, 47, 50, 255
 MOST_OCTETS, MOST_LABEL = 255, 63

@@ -3,9 +3,9 @@
 zone_rows.py.
 
 second_data.py answers the lines `read`, `show`, `words` and `place`, second_entries.py the lines `entries` and `ttl`,
-second_writer.py the lines `respond`, second_zone.py the lines `zone`, and second_denial.py the lines `denial`. Where an
-answer is beside a row, theirs has to be the same: else it is printed with both answers, and nothing is written. The
-last line is how many rows there are."""
+second_writer.py the lines `respond`, second_zone.py the lines `zone` and `update`, second_denial.py those `denial`.
+Where an answer is beside a row, theirs has to be the same: else it is printed with both answers, and nothing is
+written. The last line is how many rows there are."""
 
 import pathlib
 import sys

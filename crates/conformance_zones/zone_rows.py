@@ -1,4 +1,4 @@
-"""The rows `zone` and `denial` of the table, always the same: rows with their answers beside them, from the RFCs, and
+"""The rows `zone`, `denial` and `update` of the table, always the same: rows with their answers beside them, from the RFCs, and
 zones that are drawn from a fixed seed. second_zone.py and second_denial.py answer all, and have to answer the first as
 they say here; where sections are beside a question, these too."""
 

@@ -4,6 +4,6 @@ use Rattle.domain_zone.specs.declared.building.BuildError.TheVariants.{Fault}
 use Rattle.domain_zone.specs.declared.building.ZoneBuilder.{ZoneBuilder}
 use Rattle.domain_zone.specs.declared.fault.ZoneFault.{ZoneFault}
 
--- Records that make no zone, by a fault, make none.
+-- Records that have a fault in some RRsets that hold them are no zone in any.
 abbrev pub RefusedIsNoZone : Type 0
 RefusedIsNoZone = (b : ZoneBuilder) (fault : ZoneFault) → MakesNoZone b (Fault fault) → MakesZone b → ⊥

@@ -13,7 +13,7 @@ record_in s d = record { owner = s.owner; rtype = s.rtype; ttl = record_ttl s d;
 abbrev pub records_in : RRset → List Inserted
 records_in s = map (record_in s) s.rdata
 
--- The records of RRsets, one RRset after another.
+-- The records of RRsets, one RRset after another, each with its TTL.
 abbrev pub records_of : List RRset → List Inserted
 records_of sets = flat_map records_in sets
 

@@ -150,7 +150,8 @@ impl ZoneBuilder {
         ensures class { builder_class self.new ≡ builder_class self.old }
     {
         let before = self.entries.len();
-        self.entries.retain(|entry| !is_record_of(entry, owner, rtype));
+        self.entries
+            .retain(|entry| !is_record_of(entry, owner, rtype));
         self.entries.len() < before
     }
 
@@ -183,7 +184,8 @@ impl ZoneBuilder {
         ensures class { builder_class self.new ≡ builder_class self.old }
     {
         let before = self.entries.len();
-        self.entries.retain(|entry| !is_record(entry, owner, rtype, octets));
+        self.entries
+            .retain(|entry| !is_record(entry, owner, rtype, octets));
         self.entries.len() < before
     }
 

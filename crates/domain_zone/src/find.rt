@@ -1,5 +1,5 @@
 //! What a zone has, by binary search: names at and below another are adjacent, and it is the first of them.
-ghost use Rattle.std.specs.Prelude.{◌≡◌, ◌+◌, ◌<◌, ◌≤◌, IsTrue, ◌↔◌, MatchOption, ℕ, List, length};
+ghost use Rattle.std.specs.Prelude.{◌≡◌, ◌+◌, ◌-◌, ◌/◌, ◌<◌, ◌≤◌, IsTrue, ◌↔◌, MatchOption, ℕ, List, length};
 ghost use Rattle.std.specs.List.{Contains};
 ghost use Rattle.domain_list.specs.Ends.{EndsWith};
 ghost use Rattle.domain_list.specs.Order.{SameLabels};
@@ -46,6 +46,17 @@ fn comes_before_counted<'a, N: ToLabelIter<'a>, M: ToLabelIter<'a>, L: Ledger>(
 {
     comparisons.count();
     comes_before(set, name, rtype)
+}
+
+/// The index in the middle: on each side are at most half of those from `low` on and before `high`.
+fn middle_of(low: usize, high: usize) -> usize
+    requires { low < high }
+    ensures from { low ≤ result }
+    ensures before { result < high }
+    ensures left { result - low ≤ (high - low) / 2 }
+    ensures right { high - (result + 1) ≤ (high - low) / 2 }
+{
+    low + (high - low) / 2
 }
 
 /// How many RRsets come before what a name has of a type. They are in canonical order, and are searched by halves.
@@ -97,7 +108,7 @@ pub fn place_of_counted<'a, N: ToLabelIter<'a>, M: ToLabelIter<'a>, L: Ledger>(
     let mut low = 0;
     let mut high = sets.len();
     'halves: while low < high {
-        let middle = low + (high - low) / 2;
+        let middle = middle_of(low, high);
         let set = &sets[middle];
         if comes_before_counted(set, name, rtype, comparisons) {
             low = middle + 1;

@@ -27,10 +27,10 @@ use crate::reply::reply_from;
 use crate::zone::ZoneRecords;
 use domain_list::laws::order_laws;
 use domain_name::Name;
-use std::marker::Brand;
-use std::sync::ledger::{Blank, Ledger};
 pub use encloser::{Wildcard, source_of_synthesis};
 pub use outcome::{Answer, Substitution};
+use std::marker::Brand;
+use std::sync::ledger::{Blank, Ledger};
 
 /// Which RRset tells the cuts over a name: the one at its place where it exists, else the one before that.
 fn near(place: usize, is_there: bool) -> usize

@@ -83,7 +83,7 @@ pub(crate) fn is_owned_by<'a>(entry: &'a Entry, owner: &'a Name<&'a [u8]>) -> bo
 pub(crate) fn is_record_of<'a>(entry: &'a Entry, owner: &'a Name<&'a [u8]>, rtype: u16) -> bool
     ensures { IsTrue result ↔ IsRecordOf (name_labels owner.now) rtype (entry_view entry.now) }
 {
-    entry.rtype == rtype && eq_names(&entry.owner, owner)
+    entry.rtype == rtype && is_owned_by(entry, owner)
 }
 
 /// Whether a record is that of an owner and a type with these data.
