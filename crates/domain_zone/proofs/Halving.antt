@@ -42,3 +42,7 @@ searched_once n a b h = record { few = λ k l. let m = h.few k l in omega (arith
 
 pub searched_twice : (n a b c : ℕ) → IsSearched 1 n a b → IsSearched 1 n b c → IsSearched 2 n a c
 searched_twice n a b c h i = record { few = λ k l. let m = h.few k l in let o = i.few k l in omega (arith, m, o) }
+
+-- of as many
+pub searched_same : (s n m a b : ℕ) → n ≡ m → IsSearched s n a b → IsSearched s m a b
+searched_same s n m a b e h = subst (λ x. IsSearched s x a b) e h

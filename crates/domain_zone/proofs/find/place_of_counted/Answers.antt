@@ -59,7 +59,7 @@ halves-init g c =
       within = omega (arith, size, ap length c.as_slice-sets.ensures.value);
       before = λ k d l. absurd (omega (arith, l));
       after = λ k d l m b. absurd (omega (arith, l, m, size, ap length c.as_slice-sets.ensures.value));
-      left = halves_start (length (map (rrset labels) xs)) c.len-high.result _ (omega (arith, size, ap length c.as_slice-sets.ensures.value));
+      left = halves_start (length (map (rrset labels) xs)) _ _ (omega (arith, size, ap length c.as_slice-sets.ensures.value));
     }
 
 pub returns-clause-few : goal.returns-clause-few

@@ -1,8 +1,9 @@
-use Rattle.std.proofs.Common.{length, subst}
+use Rattle.std.proofs.Common.{length, ap, subst}
 use Rattle.domain_name.specs.Names.{name_labels}
 use Rattle.domain_zone.specs.Outcomes.{outcome_of}
 use Rattle.domain_zone.specs.Answers.{Answers}
-use Rattle.domain_zone.specs.Searches.{IsSearched}
+use Rattle.domain_zone.specs.Zone.{Zone}
+use Rattle.domain_zone.proofs.Halving.{searched_same}
 use Rattle.domain_zone.proofs.kept.Zone.lookup_counted.Goals as goal
 
 pub lookup_records-requires-clause-sorted : goal.lookup_records-requires-clause-sorted
@@ -12,4 +13,4 @@ pub returns-clause-answers : goal.returns-clause-answers
 returns-clause-answers g c = subst (λ z. Answers z (name_labels c.args.name.now) c.args.rtype (outcome_of c.lookup_records.result)) c.records.ensures.view c.lookup_records.ensures.answers
 
 pub returns-clause-few : goal.returns-clause-few
-returns-clause-few g c = subst (λ z. IsSearched 2 (length z.rrsets) c.args.comparisons.old c.lookup_records.new.comparisons) c.records.ensures.view c.lookup_records.ensures.few
+returns-clause-few g c = searched_same _ _ _ _ _ (ap (λ (z : Zone). length z.rrsets) c.records.ensures.view) c.lookup_records.ensures.few
