@@ -61,7 +61,7 @@ fn middle_of(low: usize, high: usize) -> usize
 
 /// How many RRsets come before what a name has of a type. They are in canonical order, and are searched by halves.
 ///
-/// `place_of_counted` bounds the comparisons of names: of n RRsets it makes at most k, for each k with n < 2<sup>k</sup>.
+/// `place_of_counted` bounds the comparisons of names: they are at most k for n RRsets, for each k with n < 2^k.
 pub fn place_of<'a, N: ToLabelIter<'a>, M: ToLabelIter<'a>>(
     zone: &'a ZoneRecords<N>,
     name: &'a M,
