@@ -1,5 +1,5 @@
 -- A search by halves: how much is left after so many comparisons.
-use Rattle.std.proofs.Common.{◌≡◌, ℕ, suc, ◌+◌, ◌-◌, ◌*◌, ◌/◌, ◌^◌, ◌<◌, ◌≤◌, refl, sym, subst, arith}
+use Rattle.std.proofs.Common.{◌≡◌, ℕ, zero, suc, ◌+◌, ◌-◌, ◌*◌, ◌/◌, ◌^◌, ◌<◌, ◌≤◌, refl, sym, subst, arith}
 use Rattle.std.proofs.Math.Nat.{pow-suc}
 use Rattle.domain_zone.specs.Searches.{IsSearched}
 
@@ -17,7 +17,7 @@ halves_start n d a e = record {
 -- one more comparison leaves at most half
 module _ (n d e a b : ℕ) (so_far : Halved n d a b) (some : 0 < d) (half : e ≤ d / 2) where
   by_power : (k m : ℕ) → m ≡ a + k - b → d < 2 ^ m → (b + 1 ≤ a + k) × (e < 2 ^ (a + k - (b + 1)))
-  by_power k 0 is below = absurd (omega (arith, some, below))
+  by_power k zero is below = absurd (omega (arith, some, below))
   by_power k (suc j) is below =
       let last : j ≡ a + k - (b + 1) = omega (arith, is) in
       let short : e < 2 ^ j = omega (arith, below, half, pow-suc 2 j) in
@@ -34,8 +34,8 @@ one_searched n d a b h = record { few = λ k l. let m = h.counted k l in omega (
 
 -- ---- searches one after another
 
-pub not_searched : (s n a b : ℕ) → b ≡ a → IsSearched s n a b
-not_searched s n a b e = record { few = λ k l. omega (arith, e) }
+pub none_searched : (n a b : ℕ) → b ≡ a → IsSearched 1 n a b
+none_searched n a b e = record { few = λ k l. omega (arith, e) }
 
 pub searched_once : (n a b : ℕ) → IsSearched 1 n a b → IsSearched 2 n a b
 searched_once n a b h = record { few = λ k l. let m = h.few k l in omega (arith, m) }

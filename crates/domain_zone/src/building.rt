@@ -6,7 +6,7 @@ use crate::fault::ZoneFault;
 use crate::kept::Zone;
 use crate::merging::merged;
 use crate::names::Owner;
-use crate::updating::{is_owned_by, is_record, is_record_of, records_of};
+use crate::updating::{are_fewer, is_owned_by, is_record, is_record_of, records_of};
 use domain_header::Class;
 use domain_name::Name;
 use std::alloc::{AllocError, Global};
@@ -152,7 +152,7 @@ impl ZoneBuilder {
         let before = self.entries.len();
         self.entries
             .retain(|entry| !is_record_of(entry, owner, rtype));
-        self.entries.len() < before
+        are_fewer(&self.entries, before)
     }
 
     /// Removes the records of an owner, whose case is ignored, of all types (RFC 2136, 2.5.3).
@@ -168,7 +168,7 @@ impl ZoneBuilder {
     {
         let before = self.entries.len();
         self.entries.retain(|entry| !is_owned_by(entry, owner));
-        self.entries.len() < before
+        are_fewer(&self.entries, before)
     }
 
     /// Removes the record of an owner, whose case is ignored, and a type with these data (RFC 2136, 2.5.4), whatever
@@ -186,7 +186,7 @@ impl ZoneBuilder {
         let before = self.entries.len();
         self.entries
             .retain(|entry| !is_record(entry, owner, rtype, octets));
-        self.entries.len() < before
+        are_fewer(&self.entries, before)
     }
 
     /// Inserts a record.

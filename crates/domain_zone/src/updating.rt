@@ -1,5 +1,5 @@
 //! Records of a zone that are to be in another one, and records that aren't.
-ghost use Rattle.std.specs.Prelude.{◌≡◌, [], ◌∷◌, ◌++◌, ◌↔◌, IsTrue, IfOk, OnOk, map};
+ghost use Rattle.std.specs.Prelude.{◌≡◌, ◌<◌, [], ◌∷◌, ◌++◌, ◌↔◌, IsTrue, IfOk, OnOk, length, map};
 ghost use Rattle.domain_name.specs.Names.{name_labels};
 ghost use Rattle.domain_zone.specs.Entries.{entry_view};
 ghost use Rattle.domain_zone.specs.Records.{set_view};
@@ -97,4 +97,11 @@ pub(crate) fn is_record<'a>(
         ↔ IsRecord (name_labels owner.now) rtype octets.now (entry_view entry.now) }
 {
     is_record_of(entry, owner, rtype) && entry.octets.as_slice() == octets
+}
+
+/// Whether there are fewer records than before.
+pub(crate) fn are_fewer(entries: &Vec<Entry>, before: usize) -> bool
+    ensures { IsTrue result ↔ (length entries.now.items < before) }
+{
+    entries.len() < before
 }

@@ -1,7 +1,7 @@
 use Rattle.std.proofs.Common.{◌≡◌, ℕ, sym, ◌∙◌, subst, true≢false, Bool, true, false, refl}
 use Rattle.domain_name.specs.Names.{name_labels}
 use Rattle.domain_zone.specs.Cuts.{IsUnderCutsOf}
-use Rattle.domain_zone.proofs.Halving.{not_searched, searched_once, searched_twice}
+use Rattle.domain_zone.proofs.Halving.{none_searched, searched_once, searched_twice}
 use Rattle.domain_zone.proofs.Neighbours.{exists_below, below_from}
 use Rattle.domain_zone.proofs.Near.{near_of}
 use Rattle.domain_zone.specs.Views.{zone_of}
@@ -33,7 +33,7 @@ lookup_nonexistent-requires-clause-missing g c =
     (below_from z (name_labels c.args.name.now) c.place_of_counted-at.result c.order_laws.ensures.first c.order_laws.ensures.together c.requires.sorted c.place_of_counted-at.ensures.place e)) ∙ c.if-exists.false)
 
 pub returns-then-not-ends_with-clause-few : goal.returns-then-not-ends_with-clause-few
-returns-then-not-ends_with-clause-few g c = not_searched _ _ _ _ refl
+returns-then-not-ends_with-clause-few g c = searched_once _ _ _ (none_searched _ _ _ refl)
 
 pub returns-in-Some-clause-few : goal.returns-in-Some-clause-few
 returns-in-Some-clause-few g c = searched_once _ _ _ c.place_of_counted-at.ensures.few

@@ -1,7 +1,7 @@
 use Rattle.std.proofs.Common.{◌≡◌, [], ◌∷◌, ◌++◌, ◌<◌, refl, sym, ap, ◌∙◌, subst, inr, true≢false}
 use Rattle.domain_list.specs.Chains.{before_root}
 use Rattle.domain_name.specs.Names.{name_labels, relative_labels, Wildcard}
-use Rattle.domain_zone.proofs.Halving.{not_searched}
+use Rattle.domain_zone.proofs.Halving.{none_searched}
 use Rattle.domain_zone.proofs.Leading.{redirected, long_source}
 use Rattle.domain_zone.proofs.Substituting.{joined}
 use Rattle.domain_zone.specs.Outcomes.{outcome_of}
@@ -76,10 +76,10 @@ returns-clause-answers g c =
     )
 
 pub returns-in-Some-clause-few : goal.returns-in-Some-clause-few
-returns-in-Some-clause-few g c = not_searched _ _ _ _ refl
+returns-in-Some-clause-few g c = none_searched _ _ _ refl
 
 pub returns-in_default-new-clause-few : goal.returns-in_default-new-clause-few
-returns-in_default-new-clause-few g c = not_searched _ _ _ _ refl
+returns-in_default-new-clause-few g c = none_searched _ _ _ refl
 
 pub returns-then-not-is_below_at-clause-few : goal.returns-then-not-is_below_at-clause-few
 returns-then-not-is_below_at-clause-few g c = c.place_of_counted-at.ensures.few
