@@ -1,10 +1,15 @@
 -- Lists that a loop appends to.
-use Rattle.std.proofs.Common.{◌≡◌, ℕ, ◌+◌, ◌<◌, ◌≤◌, List, [], ◌∷◌, ◌++◌, length, map, take, get_or, sym, ap, ◌∙◌}
+use Rattle.std.proofs.Common.{◌≡◌, ℕ, ◌+◌, ◌<◌, ◌≤◌, List, [], ◌∷◌, ◌++◌, length, map, take, get_or, refl, sym, ap, ◌∙◌}
 use Rattle.std.specs.List.{flat_map}
 use Rattle.std.proofs.lemmas.List.{flat_map_more, take_all, take_more}
 use Rattle.std.proofs.lemmas.List.Concat.{flat_map_single}
 use Rattle.std.proofs.lemmas.List.Folds.{flat_map-map}
 use Rattle.std.proofs.lemmas.Simd.{map-map}
+
+-- nothing yet
+pub grown_none : {C : Type 0} (start : List C) → start ≡ start ++ []
+grown_none [] = refl
+grown_none (x ∷ xs) = ap (λ l. x ∷ l) (grown_none xs)
 
 -- what one more element appends
 pub grow : {X C : Type 0} (g : X → List C) (xs : List X) (i : ℕ) (x : X) → i < length xs → x ≡ get_or xs i x → (start old new : List C) → old ≡ start ++ flat_map g (take i xs) → new ≡ old ++ g x → new ≡ start ++ flat_map g (take (i + 1) xs)

@@ -1,17 +1,16 @@
 -- Records that make a zone have no fault, whatever RRsets hold them.
-use Rattle.std.proofs.Common.{◌≡◌, ℕ, ◌<◌, ◌⊎◌, List, [], ◌∷◌, length, slice_index_or, refl, sym, ap, ◌∙◌, subst, arith, inl, inr, ⊎_elim}
+use Rattle.std.proofs.Common.{◌≡◌, ℕ, ◌<◌, List, [], ◌∷◌, length, slice_index_or, refl, sym, ap, ◌∙◌, subst, arith, inl, inr, ⊎_elim}
 use Rattle.std.specs.Cmp.Lexicographic.{slice_cmp}
 use Rattle.std.specs.List.{Contains}
 use Rattle.std.specs.Ordering.{nat_cmp}
 use Rattle.std.specs.declared.cmp.Ordering.TheVariants.{Less}
 use Rattle.std.proofs.lemmas.Cmp.{nat_list_cmp_total, tied_itself}
 use Rattle.std.proofs.lemmas.List.Elements.{All-contains, Contains-get_or}
-use Rattle.domain_label.specs.Lowercase.{lowercase_labels}
 use Rattle.domain_list.specs.Ancestors.{OrderDecidesEquality}
 use Rattle.domain_list.specs.Ends.{EndsWith}
 use Rattle.domain_list.specs.Order.{SameLabels}
 use Rattle.domain_zone.specs.Building.{Inserted, Holds, SameKey}
-use Rattle.domain_zone.specs.Faults.{IsAscending, IsCanonical, IsWildcard, Demand, HasFault, IsSound, IsFitting}
+use Rattle.domain_zone.specs.Faults.{IsAscending, IsCanonical, Demand, HasFault, IsSound, IsFitting}
 use Rattle.domain_zone.specs.declared.fault.RrsetFault.{RrsetFault}
 use Rattle.domain_zone.specs.declared.fault.RrsetFault.TheVariants.{OutOfZone, NotDataType, NoRecords, DataOrder, Soa, Target, Wildcard, BesideCname, AboveRecords, DnameAtCut}
 use Rattle.domain_zone.specs.declared.fault.ZoneFault.{ZoneFault}

@@ -3,19 +3,19 @@ use Rattle.std.specs.Prelude.{◌≡◌, ℕ, ◌↔◌, List, map}
 use Rattle.std.specs.List.{Contains, flat_map}
 use Rattle.domain_list.specs.Order.{SameLabels}
 use Rattle.domain_zone.specs.Building.{Inserted}
-use Rattle.domain_zone.specs.Zone.{RRset, record_ttl}
+use Rattle.domain_zone.specs.Zone.{Zone, RRset, record_ttl}
 
--- The record of the RRset s with the data d.
-abbrev pub record_in : RRset → List ℕ → Inserted
-record_in s d = record { owner = s.owner; rtype = s.rtype; ttl = record_ttl s d; octets = d }
+-- The record of an RRset with these data, which has a TTL of its own.
+abbrev pub record_of : RRset → List ℕ → Inserted
+record_of s d = record { owner = s.owner; rtype = s.rtype; ttl = record_ttl s d; octets = d }
 
--- The records of the RRset s.
-abbrev pub records_in : RRset → List Inserted
-records_in s = map (record_in s) s.rdata
+-- The records of an RRset, in its order.
+abbrev pub set_records : RRset → List Inserted
+set_records s = map (record_of s) s.rdata
 
--- The records of RRsets, one RRset after another, each with its TTL.
-abbrev pub records_of : List RRset → List Inserted
-records_of sets = flat_map records_in sets
+-- The records of a zone, in its order.
+abbrev pub zone_records : Zone → List Inserted
+zone_records z = flat_map set_records z.rrsets
 
 -- The name n owns the record, ignoring case.
 abbrev pub IsOwnedBy : List (List ℕ) → Inserted → Type 0

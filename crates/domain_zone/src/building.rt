@@ -96,7 +96,7 @@ impl ZoneBuilder {
     ghost use Rattle.domain_zone.specs.Builders.{inserted, builder_apex, builder_class, IsRefused, MakesNoZone, MakesZone, MayBeInserted};
     ghost use Rattle.domain_zone.specs.Building.{Inserted, Holds};
     ghost use Rattle.domain_zone.specs.Kept.{zone_view, zone_class};
-    ghost use Rattle.domain_zone.specs.Updating.{records_of, IsOwnedBy, IsRecord, IsRecordOf, Removes, HasSome};
+    ghost use Rattle.domain_zone.specs.Updating.{zone_records, IsOwnedBy, IsRecord, IsRecordOf, Removes, HasSome};
     ghost use Rattle.domain_zone.specs.declared.building.InsertError.TheVariants.{OtherClass, OutOfZone, NotDataType};
 
     /// A builder of a zone of this class at this apex, without records.
@@ -122,7 +122,7 @@ impl ZoneBuilder {
     /// Returns `AllocError` only if an allocation failed.
     pub fn from_zone(alloc: Global, zone: &Zone) -> Result<ZoneBuilder, AllocError>
         ensures inserted { IfOk result
-            (λ builder. inserted builder ≡ records_of (zone_view zone.now).rrsets) }
+            (λ builder. inserted builder ≡ zone_records (zone_view zone.now)) }
         ensures apex { IfOk result
             (λ builder. builder_apex builder ≡ (zone_view zone.now).apex) }
         ensures class { IfOk result (λ builder. builder_class builder ≡ zone_class zone.now) }

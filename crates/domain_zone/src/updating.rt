@@ -1,9 +1,10 @@
 //! Records of a zone that are to be in another one, and records that aren't.
 ghost use Rattle.std.specs.Prelude.{◌≡◌, ◌<◌, [], ◌∷◌, ◌++◌, ◌↔◌, IsTrue, IfOk, OnOk, length, map};
+ghost use Rattle.std.specs.List.{flat_map};
 ghost use Rattle.domain_name.specs.Names.{name_labels};
 ghost use Rattle.domain_zone.specs.Entries.{entry_view};
 ghost use Rattle.domain_zone.specs.Records.{set_view};
-ghost use Rattle.domain_zone.specs.Updating.{record_in, records_in, records_of, IsOwnedBy, IsRecord, IsRecordOf};
+ghost use Rattle.domain_zone.specs.Updating.{record_of, set_records, IsOwnedBy, IsRecord, IsRecordOf};
 
 use crate::entry::Entry;
 use crate::names::Owner;
@@ -14,9 +15,9 @@ use domain_name::Name;
 use std::alloc::{AllocError, Global};
 
 /// The record of an RRset with these data.
-fn record_in(alloc: Global, set: &Rrset<Owner>, octets: &Vec<u8>) -> Result<Entry, AllocError>
+fn record_of(alloc: Global, set: &Rrset<Owner>, octets: &Vec<u8>) -> Result<Entry, AllocError>
     ensures { IfOk result
-        (λ entry. entry_view entry ≡ record_in (set_view set.now) octets.now.items) }
+        (λ entry. entry_view entry ≡ record_of (set_view set.now) octets.now.items) }
 {
     let Ok(owner) = set.owner.clone(alloc) else {
         return Err(AllocError);
@@ -37,9 +38,9 @@ fn push_record(
     entries: &mut Vec<Entry>,
 ) -> Result<(), AllocError>
     ensures { OnOk result (map entry_view entries.new.items
-        ≡ map entry_view entries.old.items ++ record_in (set_view set.now) octets.now.items ∷ []) }
+        ≡ map entry_view entries.old.items ++ record_of (set_view set.now) octets.now.items ∷ []) }
 {
-    let entry = record_in(alloc, set, octets)?;
+    let entry = record_of(alloc, set, octets)?;
     entries.push(entry)?;
     Ok(())
 }
@@ -51,7 +52,7 @@ fn push_records(
     entries: &mut Vec<Entry>,
 ) -> Result<(), AllocError>
     ensures { OnOk result (map entry_view entries.new.items
-        ≡ map entry_view entries.old.items ++ records_in (set_view set.now)) }
+        ≡ map entry_view entries.old.items ++ set_records (set_view set.now)) }
 {
     let rdata = set.rdata.as_slice();
     for octets in rdata {
@@ -63,7 +64,7 @@ fn push_records(
 /// The records of RRsets, one RRset after another.
 pub(crate) fn records_of(alloc: Global, sets: &[Rrset<Owner>]) -> Result<Vec<Entry>, AllocError>
     ensures { IfOk result
-        (λ entries. map entry_view entries.items ≡ records_of (map set_view sets.now)) }
+        (λ entries. map entry_view entries.items ≡ flat_map set_records (map set_view sets.now)) }
 {
     let mut entries = Vec::new(alloc);
     for set in sets {
