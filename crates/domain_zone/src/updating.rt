@@ -5,6 +5,7 @@ ghost use Rattle.domain_name.specs.Names.{name_labels};
 ghost use Rattle.domain_zone.specs.Entries.{entry_view};
 ghost use Rattle.domain_zone.specs.Records.{set_view};
 ghost use Rattle.domain_zone.specs.Updating.{record_of, set_records, IsOwnedBy, IsRecord, IsRecordOf};
+ghost use Rattle.domain_zone.specs.Zone.{record_ttl};
 
 use crate::entry::Entry;
 use crate::names::Owner;
@@ -14,19 +15,43 @@ use domain_list::comparing::eq_names;
 use domain_name::Name;
 use std::alloc::{AllocError, Global};
 
+/// A copy of the owner of an RRset.
+fn owner_of(alloc: Global, set: &Rrset<Owner>) -> Result<Owner, AllocError>
+    ensures { IfOk result (λ owner. name_labels owner ≡ name_labels set.now.owner) }
+{
+    match set.owner.clone(alloc) {
+        Ok(owner) => Ok(owner),
+        Err(_) => Err(AllocError),
+    }
+}
+
+/// The TTL of the record of an RRset with these data.
+fn ttl_of(set: &Rrset<Owner>, octets: &Vec<u8>) -> u32
+    ensures { result ≡ record_ttl (set_view set.now) octets.now.items }
+{
+    record_ttl(set, octets.as_slice())
+}
+
+/// A copy of data.
+fn copy_of(octets: &Vec<u8>) -> Result<Vec<u8>, AllocError>
+    ensures { IfOk result (λ copy. copy.items ≡ octets.now.items) }
+{
+    octets.clone()
+}
+
 /// The record of an RRset with these data.
 fn record_of(alloc: Global, set: &Rrset<Owner>, octets: &Vec<u8>) -> Result<Entry, AllocError>
     ensures { IfOk result
         (λ entry. entry_view entry ≡ record_of (set_view set.now) octets.now.items) }
 {
-    let Ok(owner) = set.owner.clone(alloc) else {
-        return Err(AllocError);
-    };
+    let owner = owner_of(alloc, set)?;
+    let ttl = ttl_of(set, octets);
+    let octets = copy_of(octets)?;
     Ok(Entry {
         owner,
         rtype: set.rtype,
-        ttl: record_ttl(set, octets.as_slice()),
-        octets: octets.clone()?,
+        ttl,
+        octets,
     })
 }
 
